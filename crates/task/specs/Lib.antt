@@ -1,0 +1,3 @@
+pub mod Jobs
+pub mod Links
+pub mod LinkLaws

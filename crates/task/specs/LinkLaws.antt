@@ -1,0 +1,168 @@
+-- Laws of one link: the closed forms are the earliest and the latest job, and forward, `Linked` and backward are one rule (`link`).
+-- What stands above a link uses the laws under "one link" alone.
+use Prim.Native.Nat.{ℕ, zero, suc, _+_, _-_, _*_, _/_, _≤_, _<_}
+use native.Mathlib.Omega.{arith}
+use native.Mathlib.Nat.{le-div-iff-mul-le, div-lt-iff-lt-mul, lt-div-mul-add, div-mul-le-self, add-mul-div-right, mul-le-mul-right, mul-le-mul-left, suc-mul, mul-one}
+use native.Mathlib.Decide.{decLe}
+use mathlib.Core.Path.{_≡_, refl, sym, ap, _∙_}
+use mathlib.Core.Logic.{_↔_}
+use mathlib.Core.Bool.{Bool, true, false, cond, _&&_}
+use lib.Dec.{leb}
+use borrow.Author.Tests.{leb-true, leb-false, le-leb, lt-leb}
+use Rattle.task.specs.declared.Task.{Task}
+use Rattle.task.specs.declared.Job.{Job}
+use Rattle.task.specs.declared.Latest.{Latest}
+use Rattle.task.specs.declared.Latest.the-variants.{Of, Nothing}
+use Rattle.task.specs.Jobs.{readOf, writeOf, withinLimits, Within}
+use Rattle.task.specs.Links.{Linked, earliestFrom, earliestAfter, latestBy, forwardLink, backwardLink}
+
+-- ---- limits, as a test and as facts
+
+first-test : (a b : Bool) → (a && b) ≡ true → a ≡ true
+first-test true b h = refl
+first-test false b h = h
+
+other-tests : (a b : Bool) → (a && b) ≡ true → b ≡ true
+other-tests true b h = h
+other-tests false true h = refl
+other-tests false false h = h
+
+pub limits : (a : Task) → withinLimits a ≡ true → Within a
+unfolding withinLimits
+limits a h =
+    let h₁ = other-tests (leb 1 (a .period)) _ h in
+    let h₂ = other-tests (leb (a .period) 1000000) _ h₁ in
+    let h₃ = other-tests (leb 1 (a .duration)) _ h₂ in
+    record {
+      period-pos = leb-true _ _ (first-test (leb 1 (a .period)) _ h);
+      period-max = leb-true _ _ (first-test (leb (a .period) 1000000) _ h₁);
+      duration-pos = leb-true _ _ (first-test (leb 1 (a .duration)) _ h₂);
+      duration-max = leb-true _ _ (first-test (leb (a .duration) 4000000) _ h₃);
+      phase-max = leb-true _ _ (other-tests (leb (a .duration) 4000000) _ h₃);
+    }
+
+pub limits-hold : (a : Task) → Within a → withinLimits a ≡ true
+unfolding withinLimits
+limits-hold a w =
+    rw (le-leb 1 (a .period) (w .period-pos), le-leb (a .period) 1000000 (w .period-max), le-leb 1 (a .duration) (w .duration-pos), le-leb (a .duration) 4000000 (w .duration-max))
+    (le-leb (a .phase) 1000000 (w .phase-max))
+
+-- ---- reads
+
+pub read-mono : (a : Task) (i j : ℕ) → i ≤ j → readOf a i ≤ readOf a j
+read-mono a i j h = omega (arith, mul-le-mul-right (a .period) h)
+
+-- a job's number is at most its read
+pub job-small : (a : Task) → 1 ≤ a .period → (j : ℕ) → j ≤ readOf a j
+job-small a h j = omega (arith, mul-le-mul-left j h, mul-one j)
+
+-- ---- the earliest job
+
+module _ (b : Task) (pos : 1 ≤ b .period) where
+  -- it reads at or after w,
+  pub earliest-reads : (w : ℕ) → w ≤ readOf b (earliestFrom b w)
+  unfolding earliestFrom
+  earliest-reads w = omega (arith, lt-div-mul-add {a = w - b .phase + (b .period - 1)} {b = b .period} pos)
+
+  -- and no earlier job does.
+  pub earliest-least : (w k : ℕ) → w ≤ readOf b k → earliestFrom b w ≤ k
+  unfolding earliestFrom
+  earliest-least w k h =
+      let q : (w - b .phase + (b .period - 1)) / b .period < suc k = div-lt-iff-lt-mul pos .1 (rw suc-mul (omega arith)) in
+      omega arith
+
+  pub earliest-le : (w k : ℕ) → (earliestFrom b w ≤ k) ↔ (w ≤ readOf b k)
+  earliest-le w k = (λ l. omega (arith, earliest-reads w, read-mono b (earliestFrom b w) k l), λ l. earliest-least w k l)
+
+  -- it reads within one period of w, or is job 0
+  pub earliest-soon : (w : ℕ) → readOf b (earliestFrom b w) ≤ w + b .phase + (b .period - 1)
+  unfolding earliestFrom
+  earliest-soon w = omega (arith, div-mul-le-self (w - b .phase + (b .period - 1)) (b .period))
+
+  -- where it is not job 0 it reads less than a period after w
+  pub earliest-wait : (w : ℕ) → 1 ≤ earliestFrom b w → readOf b (earliestFrom b w) < w + b .period
+  unfolding earliestFrom
+  earliest-wait w h =
+      let u = le-div-iff-mul-le {x = 1} pos .0 h in
+      omega (arith, u, div-mul-le-self (w - b .phase + (b .period - 1)) (b .period))
+
+-- ---- the latest job
+
+-- There is a latest job, and it is not before j.
+abbrev pub AtLeast : Latest → ℕ → Type 0
+AtLeast (Of i) j = j ≤ i .0
+AtLeast Nothing j = ⊥
+
+module _ (a : Task) (pos : 1 ≤ a .period) where
+  -- The latest job that writes at or before z is not before j exactly when job j writes at or before z.
+  pub latest-is : (z j : ℕ) → (writeOf a j ≤ z) ↔ AtLeast (latestBy a z) j
+  unfolding latestBy
+  latest-is z j = go (leb (writeOf a 0) z) refl
+    where
+      go : (t : Bool) → leb (writeOf a 0) z ≡ t → (writeOf a j ≤ z) ↔ AtLeast (cond t (Of (record { 0 = (z - writeOf a 0) / a .period })) Nothing) j
+      go true e =
+          let s : writeOf a 0 ≤ z = leb-true _ _ e in (
+            λ l. le-div-iff-mul-le pos .1 (omega arith),
+            λ (l : j ≤ (z - writeOf a 0) / a .period). let u : j * a .period ≤ z - writeOf a 0 = le-div-iff-mul-le pos .0 l in omega arith,
+          )
+      go false e = let s : z < writeOf a 0 = leb-false _ _ e in (λ l. omega arith, λ l. absurd l)
+
+-- p periods later the latest job is p later
+latest-period : (a : Task) → 1 ≤ a .period → (p z : ℕ) (j : Job) → latestBy a z ≡ Of j → latestBy a (z + p * a .period) ≡ Of (record { 0 = j .0 + p })
+unfolding latestBy
+latest-period a pos p z j e = go (leb (writeOf a 0) z) refl e
+  where
+    go : (t : Bool) → leb (writeOf a 0) z ≡ t → cond t (Of (record { 0 = (z - writeOf a 0) / a .period })) Nothing ≡ Of j
+        → cond (leb (writeOf a 0) (z + p * a .period)) (Of (record { 0 = (z + p * a .period - writeOf a 0) / a .period })) Nothing ≡ Of (record { 0 = j .0 + p })
+    go true t h =
+        let s : writeOf a 0 ≤ z = leb-true _ _ t in
+        let i : _≡_ {A = Job} (record { 0 = (z - writeOf a 0) / a .period }) j = cc in
+        let d : z + p * a .period - writeOf a 0 ≡ z - writeOf a 0 + p * a .period = omega arith in
+        rw (le-leb (writeOf a 0) (z + p * a .period) (omega arith), d, add-mul-div-right (z - writeOf a 0) p pos, ap (λ (x : Job). x .0) i)
+    go false t h = absurd (let y : _≡_ {A = ℕ} 0 1 = cc in omega arith)
+
+-- ---- one link, from task a to task b at the next place
+
+module _ (a b : Task) where
+  -- Forward from j is the earliest job that j is linked to,
+  pub link-forward : 1 ≤ b .period → (j k : ℕ) → (forwardLink a b j ≤ k) ↔ Linked a j b k
+  unfolding forwardLink
+  link-forward pos j k = earliest-le b pos (writeOf a j) k
+
+  -- and backward from k the latest job that is linked to k.
+  pub link-backward : 1 ≤ a .period → (j k : ℕ) → Linked a j b k ↔ AtLeast (backwardLink a b k) j
+  unfolding backwardLink
+  link-backward pos j k = latest-is a pos (readOf b k) j
+
+  -- The link law: forward from j comes to k or earlier exactly when backward from k there is a job, j or later.
+  pub link : 1 ≤ a .period → 1 ≤ b .period → (j k : ℕ) → (forwardLink a b j ≤ k) ↔ AtLeast (backwardLink a b k) j
+  link p q j k = (λ h. link-backward p j k .0 (link-forward q j k .0 h), λ h. link-forward q j k .1 (link-backward p j k .1 h))
+
+  -- A link goes forward in time,
+  pub forward-later : 1 ≤ b .period → (j : ℕ) → writeOf a j ≤ readOf b (forwardLink a b j)
+  forward-later pos j = link-forward pos j (forwardLink a b j) .0 (omega arith)
+
+  -- by less than a period, or to job 0,
+  pub forward-wait : 1 ≤ b .period → (j : ℕ) → 1 ≤ forwardLink a b j → readOf b (forwardLink a b j) < writeOf a j + b .period
+  unfolding forwardLink
+  forward-wait pos j = earliest-wait b pos (writeOf a j)
+
+  -- so by no more than 1,000,000 ticks.
+  pub forward-soon : Within b → (j : ℕ) → readOf b (forwardLink a b j) ≤ writeOf a j + 1000000
+  forward-soon w j = go (forwardLink a b j) refl
+    where
+      go : (k : ℕ) → forwardLink a b j ≡ k → readOf b k ≤ writeOf a j + 1000000
+      go zero e = omega (arith, w .phase-max)
+      go (suc k) e = let f = forward-wait (w .period-pos) j (omega arith) in let g = rw e at f in omega (arith, w .period-max)
+
+  -- A link goes backward in time.
+  pub backward-earlier : 1 ≤ a .period → (k : ℕ) (j : Job) → backwardLink a b k ≡ Of j → writeOf a (j .0) ≤ readOf b k
+  backward-earlier pos k j e = link-backward pos (j .0) k .1 (rw e (omega arith))
+
+  -- Backward repeats where the periods fit the same number of ticks: q jobs later it is p jobs later.
+  pub backward-period : 1 ≤ a .period → (p q : ℕ) → p * a .period ≡ q * b .period → (k : ℕ) (j : Job) → backwardLink a b k ≡ Of j
+      → backwardLink a b (k + q) ≡ Of (record { 0 = j .0 + p })
+  unfolding backwardLink
+  backward-period pos p q same k j e =
+      let s : readOf b (k + q) ≡ readOf b k + p * a .period = omega arith in
+      rw s (latest-period a pos p (readOf b k) j e)
