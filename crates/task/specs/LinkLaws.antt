@@ -86,6 +86,13 @@ module _ (b : Task) (pos : 1 ≤ b .period) where
       let u = le-div-iff-mul-le {x = 1} pos .0 h in
       omega (arith, u, div-mul-le-self (w - b .phase + (b .period - 1)) (b .period))
 
+  -- q periods later the earliest job is q later, from the phase on
+  pub earliest-period : (q w : ℕ) → b .phase ≤ w → earliestFrom b (w + q * b .period) ≡ earliestFrom b w + q
+  unfolding earliestFrom
+  earliest-period q w h =
+      let s : w + q * b .period - b .phase + (b .period - 1) ≡ w - b .phase + (b .period - 1) + q * b .period = omega arith in
+      rw s (add-mul-div-right (w - b .phase + (b .period - 1)) q pos)
+
 -- ---- the latest job
 
 -- There is a latest job, and it is not before j.

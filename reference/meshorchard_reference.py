@@ -1,0 +1,777 @@
+"""Reference program of Meshorchard: delay tables for chains of
+fixed-duration tasks of cave-survey laser instruments.
+
+It is written from document 01 alone and follows its definitions as
+literally as running time allows.  It uses the standard library only.
+
+Conventions
+  A task is (T, D, F): period, duration, phase.
+  A chain is a list of tasks, one for each place.
+  Places count from 1, job numbers count from 0.
+  A success is ("ok", ...), a refusal is ("refused", number, place).
+"""
+
+import math
+import struct
+
+# ---------------------------------------------------------------------------
+# Limits of document 01
+# ---------------------------------------------------------------------------
+
+LONGEST_PERIOD = 1_000_000
+LONGEST_DURATION = 4_000_000
+LARGEST_PHASE = 1_000_000
+MOST_TASKS = 32
+MOST_PLACES = 12
+LARGEST_HYPERPERIOD = 60_000_000
+LARGEST_LATENCY = 60_000_000
+LARGEST_FIRST_START = 1_000_000_000
+UPPER_TICK = 1_000_000_000_000
+LARGEST_TASK_NUMBER = 65_535
+LARGEST_WINDOW = 100
+REPORT_BYTES = 4_096
+REPORT_SLOTS = 1_024
+
+# Figures of a table are had tick by tick up to this hyperperiod.
+# Beyond it they are had segment by segment.
+ENUMERATION_LIMIT = 20_000
+
+# The warm-up job is searched upward, job by job, up to this number.
+# Beyond it an estimate is used and verified.
+LITERAL_WARM_UP_LIMIT = 16
+
+
+def refused(number, place=0):
+    """A refusal: its number and its place."""
+    return ("refused", number, place)
+
+
+# ---------------------------------------------------------------------------
+# Tasks and jobs
+# ---------------------------------------------------------------------------
+
+def read_of(task, job):
+    """The tick at which the job reads: F + j * T."""
+    period, _duration, phase = task
+    return phase + job * period
+
+
+def write_of(task, job):
+    """The tick at which the job writes: F + j * T + D."""
+    period, duration, phase = task
+    return phase + job * period + duration
+
+
+def task_within_rule(task):
+    """Whether T, D and F lie within their limits."""
+    period, duration, phase = task
+    return (1 <= period <= LONGEST_PERIOD
+            and 1 <= duration <= LONGEST_DURATION
+            and 0 <= phase <= LARGEST_PHASE)
+
+
+def earliest_reading_at_or_after(task, tick):
+    """The task's earliest job that reads at or after the tick.
+
+    The search begins near an estimate.  It is correct for every estimate:
+    reads rise with the job number, so a job that passes while the job
+    before it fails (or does not exist) is the earliest.
+    """
+    period, _duration, phase = task
+    job = max(0, (tick - phase) // period)
+    while read_of(task, job) < tick:
+        job += 1
+    while job > 0 and read_of(task, job - 1) >= tick:
+        job -= 1
+    return job
+
+
+def latest_writing_at_or_before(task, tick):
+    """The task's latest job that writes at or before the tick, or None.
+
+    Again a search near an estimate.  The job found passes and the job
+    after it fails.  There is none when job 0 writes after the tick.
+    """
+    if write_of(task, 0) > tick:
+        return None
+    period, duration, phase = task
+    job = max(0, (tick - phase - duration) // period)
+    while job > 0 and write_of(task, job) > tick:
+        job -= 1
+    while write_of(task, job + 1) <= tick:
+        job += 1
+    return job
+
+
+# ---------------------------------------------------------------------------
+# Chains
+# ---------------------------------------------------------------------------
+
+def hyperperiod(tasks):
+    """The hyperperiod H: least common multiple of the places' periods."""
+    return math.lcm(*[period for period, _duration, _phase in tasks])
+
+
+def check_chain(tasks):
+    """Refusals 8, 5 and 7 of an analysed chain, else ("ok", H)."""
+    if not 1 <= len(tasks) <= MOST_PLACES:
+        return refused(8)
+    for place, task in enumerate(tasks, start=1):
+        if not task_within_rule(task):
+            return refused(5, place)
+    H = hyperperiod(tasks)
+    if H > LARGEST_HYPERPERIOD:
+        return refused(7)
+    return ("ok", H)
+
+
+def forward(tasks, place, job):
+    """The last place's job reached by forward steps from a job at a place.
+
+    A forward step takes the next place's earliest job that reads at or
+    after this job's write.  Equal ticks connect.
+    """
+    for here in range(place, len(tasks)):
+        write = write_of(tasks[here - 1], job)
+        job = earliest_reading_at_or_after(tasks[here], write)
+    return job
+
+
+def backward_way(tasks, place, job):
+    """The jobs at places 1 to `place` on the backward way, or None.
+
+    A backward step takes the previous place's latest job that writes at
+    or before this job's read.  There may be none.
+    """
+    way = [job]
+    for here in range(place, 1, -1):
+        read = read_of(tasks[here - 1], job)
+        job = latest_writing_at_or_before(tasks[here - 2], read)
+        if job is None:
+            return None
+        way.append(job)
+    way.reverse()
+    return way
+
+
+def backward(tasks, place, job):
+    """The first place's job reached by backward steps, or None."""
+    way = backward_way(tasks, place, job)
+    return None if way is None else way[0]
+
+
+# ---------------------------------------------------------------------------
+# Warm-up
+# ---------------------------------------------------------------------------
+
+def warm_up_job_by_literal_search(tasks, limit=None):
+    """Wn by trying job after job upward.  None when the limit is passed."""
+    last = len(tasks)
+    job = 0
+    while backward(tasks, last, job) is None:
+        job += 1
+        if limit is not None and job > limit:
+            return None
+    return job
+
+
+def warm_up_job_by_bisection(tasks):
+    """Wn by bisection over the job numbers of the last place.
+
+    A later job never reaches less than an earlier one, so "reaches the
+    first place" changes once, from no to yes.  The bisection keeps one
+    job that does not reach and one that does until they are neighbours.
+    """
+    last = len(tasks)
+    if backward(tasks, last, 0) is not None:
+        return 0
+    reaches_not = 0
+    reaches = 1
+    while backward(tasks, last, reaches) is None:
+        reaches_not = reaches
+        reaches *= 2
+    while reaches - reaches_not > 1:
+        middle = (reaches_not + reaches) // 2
+        if backward(tasks, last, middle) is None:
+            reaches_not = middle
+        else:
+            reaches = middle
+    return reaches
+
+
+def is_warm_up_job(tasks, job):
+    """Whether the job is Wn: it reaches, the one before does not."""
+    last = len(tasks)
+    if backward(tasks, last, job) is None:
+        return False
+    return job == 0 or backward(tasks, last, job - 1) is None
+
+
+def warm_up_job(tasks):
+    """Wn: the least job at the last place that reaches the first place."""
+    job = warm_up_job_by_literal_search(tasks, LITERAL_WARM_UP_LIMIT)
+    if job is None:
+        # Estimate: where the first place's job 0 leads forward.
+        job = forward(tasks, 1, 0)
+        if not is_warm_up_job(tasks, job):
+            job = warm_up_job_by_bisection(tasks)
+    if not is_warm_up_job(tasks, job):
+        raise AssertionError("this is not the warm-up job")
+    return job
+
+
+def warm_up_way(tasks):
+    """The jobs W1 to Wn of an accepted chain."""
+    return backward_way(tasks, len(tasks), warm_up_job(tasks))
+
+
+def warm_up(tasks):
+    """Warm-up: ("ok", [W1 to Wn], x0, H), or refusal 8, 5, 7."""
+    answer = check_chain(tasks)
+    if answer[0] != "ok":
+        return answer
+    H = answer[1]
+    way = warm_up_way(tasks)
+    x0 = read_of(tasks[0], way[0])
+    return ("ok", way, x0, H)
+
+
+# ---------------------------------------------------------------------------
+# Delay and age
+# ---------------------------------------------------------------------------
+
+def walked_delay(tasks, t):
+    """The delay at tick t, without the refusals.
+
+    The first place's earliest job that reads strictly after t reads at or
+    after t + 1, ticks being whole.
+    """
+    job = earliest_reading_at_or_after(tasks[0], t + 1)
+    end_job = forward(tasks, 1, job)
+    return write_of(tasks[-1], end_job) - t
+
+
+def walked_age(tasks, z):
+    """The age at tick z, without the refusals."""
+    job = latest_writing_at_or_before(tasks[-1], z)
+    first_job = backward(tasks, len(tasks), job)
+    return z - read_of(tasks[0], first_job)
+
+
+def delay(tasks, t):
+    """Walking: ("ok", delay at t), or refusal 8, 5, 7, 12, 13."""
+    answer = warm_up(tasks)
+    if answer[0] != "ok":
+        return answer
+    x0 = answer[2]
+    if t < x0:
+        return refused(12)
+    if t > UPPER_TICK:
+        return refused(13)
+    return ("ok", walked_delay(tasks, t))
+
+
+def age(tasks, z):
+    """Ageing: ("ok", age at z), or refusal 8, 5, 7, 12, 13."""
+    answer = warm_up(tasks)
+    if answer[0] != "ok":
+        return answer
+    way = answer[1]
+    if z < write_of(tasks[-1], way[-1]):
+        return refused(12)
+    if z > UPPER_TICK:
+        return refused(13)
+    return ("ok", walked_age(tasks, z))
+
+
+# ---------------------------------------------------------------------------
+# Partitions and anchors
+# ---------------------------------------------------------------------------
+
+def partition(tasks, p, m):
+    """The partition of job m at place p: its start and its end."""
+    first_job = backward(tasks, p, m)
+    last_job = forward(tasks, p, m + 1)
+    return (read_of(tasks[0], first_job), write_of(tasks[-1], last_job))
+
+
+def range_of_m(tasks, p):
+    """The definition's range of m: Wp to Wp + H/Tp - 1."""
+    answer = warm_up(tasks)
+    if answer[0] != "ok":
+        raise ValueError("the chain is not accepted")
+    if not 1 <= p <= len(tasks):
+        raise ValueError("p is outside the places")
+    way, H = answer[1], answer[3]
+    Tp = tasks[p - 1][0]
+    Wp = way[p - 1]
+    return range(Wp, Wp + H // Tp)
+
+
+def partitions(tasks, p):
+    """The partitions (start, end) of every m in the range."""
+    return [partition(tasks, p, m) for m in range_of_m(tasks, p)]
+
+
+def anchors_of_walk(walk, next_start):
+    """The anchors of walked partitions.
+
+    `next_start` is the start of the m just after the range.
+    """
+    # Keep a partition when the next m has another start.
+    kept = []
+    for index, (start, end) in enumerate(walk):
+        if index + 1 < len(walk):
+            start_of_next = walk[index + 1][0]
+        else:
+            start_of_next = next_start
+        if start != start_of_next:
+            kept.append((start, end))
+    # Drop each kept one whose end equals that of the kept one before.
+    remaining = []
+    for index, (start, end) in enumerate(kept):
+        if index > 0 and kept[index - 1][1] == end:
+            continue
+        remaining.append((start, end))
+    # An anchor is the start and the latency.
+    return [(start, end - start) for start, end in remaining]
+
+
+def anchors(tasks, p):
+    """The anchors (start, latency) of an accepted chain cut at place p."""
+    numbers = range_of_m(tasks, p)
+    walk = [partition(tasks, p, m) for m in numbers]
+    after = backward(tasks, p, numbers.stop)
+    return anchors_of_walk(walk, read_of(tasks[0], after))
+
+
+# ---------------------------------------------------------------------------
+# Making a table
+# ---------------------------------------------------------------------------
+
+def make(tasks, p, starts, latencies):
+    """Making: (answer, starts after, latencies after).
+
+    The answer is ("ok", g, x0, H, walked), or
+    ("refused", 11, 0, g, x0, H, walked), or refusal 8, 5, 7, 9, 10.
+    """
+    starts_after = list(starts)
+    latencies_after = list(latencies)
+    answer = warm_up(tasks)
+    if answer[0] != "ok":
+        return (answer, starts_after, latencies_after)
+    if not 1 <= p <= len(tasks):
+        return (refused(9), starts_after, latencies_after)
+    if len(starts) != len(latencies):
+        return (refused(10), starts_after, latencies_after)
+    x0, H = answer[2], answer[3]
+    found = anchors(tasks, p)
+    walked = len(range_of_m(tasks, p))
+    g = len(found)
+    # The first anchors that fit are written, the rest keeps its content.
+    for index in range(min(g, len(starts))):
+        start, latency = found[index]
+        starts_after[index] = start
+        latencies_after[index] = latency
+    if len(starts) < g:
+        made = ("refused", 11, 0, g, x0, H, walked)
+    else:
+        made = ("ok", g, x0, H, walked)
+    return (made, starts_after, latencies_after)
+
+
+# ---------------------------------------------------------------------------
+# Reading a table
+# ---------------------------------------------------------------------------
+
+def distance_to_next(starts, g, H, index):
+    """Distance to the next start; for the last, to first start + H."""
+    if index + 1 < g:
+        return starts[index + 1] - starts[index]
+    return starts[0] + H - starts[index]
+
+
+def well_formed(starts, latencies, g, H):
+    """Whether the table is well-formed.  Entries from g on do not count."""
+    if len(starts) != len(latencies):
+        return False
+    if not 1 <= g <= len(starts):
+        return False
+    if not 1 <= H <= LARGEST_HYPERPERIOD:
+        return False
+    if starts[0] > LARGEST_FIRST_START:
+        return False
+    for index in range(g - 1):
+        if not starts[index] < starts[index + 1]:
+            return False
+    for index in range(g):
+        if not starts[index] < starts[0] + H:
+            return False
+    for index in range(g):
+        if latencies[index] > LARGEST_LATENCY:
+            return False
+        if not latencies[index] > distance_to_next(starts, g, H, index):
+            return False
+    return True
+
+
+def table_delay(starts, latencies, g, H, t):
+    """The delay that a well-formed table gives at tick t."""
+    r = (t - starts[0]) % H
+    tick = starts[0] + r
+    # The last anchor whose start is at most the tick.
+    last = max(index for index in range(g) if starts[index] <= tick)
+    return latencies[last] - (tick - starts[last])
+
+
+def read_table(starts, latencies, g, H, t):
+    """Reading a table: ("ok", delay at t), or refusal 14, 12, 13."""
+    if not well_formed(starts, latencies, g, H):
+        return refused(14)
+    if t < starts[0]:
+        return refused(12)
+    if t > UPPER_TICK:
+        return refused(13)
+    return ("ok", table_delay(starts, latencies, g, H, t))
+
+
+# ---------------------------------------------------------------------------
+# Figures of a table
+# ---------------------------------------------------------------------------
+
+def delays_of_hyperperiod(starts, latencies, g, H):
+    """The delays at the H ticks from first start, tick by tick."""
+    delays = []
+    last = 0
+    for tick in range(starts[0], starts[0] + H):
+        # `last` is the last anchor whose start is at most the tick.
+        if last + 1 < g and starts[last + 1] <= tick:
+            last += 1
+        delays.append(latencies[last] - (tick - starts[last]))
+    return delays
+
+
+def segments_of_table(starts, latencies, g, H):
+    """(latency, distance to the next start) of each anchor."""
+    return [(latencies[index], distance_to_next(starts, g, H, index))
+            for index in range(g)]
+
+
+def low_by_enumeration(starts, latencies, g, H):
+    """The limit that the delay nears: one below the least delay.
+
+    Delays fall by one from tick to tick, so at the last tick before the
+    next start the delay is one above latency less distance.
+    """
+    return min(delays_of_hyperperiod(starts, latencies, g, H)) - 1
+
+
+def low_by_segments(starts, latencies, g, H):
+    """The least of latency less distance to the next start."""
+    return min(latency - distance for latency, distance
+               in segments_of_table(starts, latencies, g, H))
+
+
+def sum_by_enumeration(starts, latencies, g, H):
+    """The sum of the delays at the H ticks from first start."""
+    return sum(delays_of_hyperperiod(starts, latencies, g, H))
+
+
+def sum_by_segments(starts, latencies, g, H):
+    """The same sum; each segment is a falling row of delays."""
+    total = 0
+    for latency, distance in segments_of_table(starts, latencies, g, H):
+        first = latency
+        last = latency - distance + 1
+        total += (first + last) * distance // 2
+    return total
+
+
+def exceedance_by_enumeration(starts, latencies, g, H, B):
+    """Longest run of ticks with delay above B, or "endless".
+
+    Delays repeat with H.  When some tick has no delay above B, a run is
+    shorter than H, and two hyperperiods show every run whole.
+    """
+    delays = delays_of_hyperperiod(starts, latencies, g, H)
+    if all(one > B for one in delays):
+        return "endless"
+    longest = 0
+    run = 0
+    for one in delays + delays:
+        if one > B:
+            run += 1
+            longest = max(longest, run)
+        else:
+            run = 0
+    return longest
+
+
+def exceedance_by_segments(starts, latencies, g, H, B):
+    """The same run, segment by segment.
+
+    In a segment the delays fall, so the ticks above B come first.
+    """
+    segments = segments_of_table(starts, latencies, g, H)
+    if all(latency - distance + 1 > B for latency, distance in segments):
+        return "endless"
+    longest = 0
+    run = 0
+    for latency, distance in segments + segments:
+        above = min(distance, max(0, latency - B))
+        run += above
+        longest = max(longest, run)
+        if above < distance:
+            run = 0
+    return longest
+
+
+def greatest(starts, latencies, g, H):
+    """Greatest latency: the largest of the first g latencies."""
+    if not well_formed(starts, latencies, g, H):
+        return refused(14)
+    return ("ok", max(latencies[:g]))
+
+
+def low(starts, latencies, g, H):
+    """Low: the limit that the delay nears and never reaches."""
+    if not well_formed(starts, latencies, g, H):
+        return refused(14)
+    if H <= ENUMERATION_LIMIT:
+        return ("ok", low_by_enumeration(starts, latencies, g, H))
+    return ("ok", low_by_segments(starts, latencies, g, H))
+
+
+def mean(starts, latencies, g, H):
+    """Mean: the sum of the delays at the H ticks, and H."""
+    if not well_formed(starts, latencies, g, H):
+        return refused(14)
+    if H <= ENUMERATION_LIMIT:
+        return ("ok", sum_by_enumeration(starts, latencies, g, H), H)
+    return ("ok", sum_by_segments(starts, latencies, g, H), H)
+
+
+def throughput(starts, latencies, g, H):
+    """Throughput: g anchors in H ticks."""
+    if not well_formed(starts, latencies, g, H):
+        return refused(14)
+    return ("ok", g, H)
+
+
+def exceedance(starts, latencies, g, H, B):
+    """Longest exceedance of B: a number of ticks, or "endless"."""
+    if not well_formed(starts, latencies, g, H):
+        return refused(14)
+    if H <= ENUMERATION_LIMIT:
+        return ("ok", exceedance_by_enumeration(starts, latencies, g, H, B))
+    return ("ok", exceedance_by_segments(starts, latencies, g, H, B))
+
+
+# ---------------------------------------------------------------------------
+# Windows of jobs
+# ---------------------------------------------------------------------------
+
+def misses(tasks, j, B):
+    """Whether job j of the first place misses.
+
+    It misses when its forward end less its own read is above B.
+    """
+    end = write_of(tasks[-1], forward(tasks, 1, j))
+    return end - read_of(tasks[0], j) > B
+
+
+def windows(tasks, B, k):
+    """Windows: ("ok", count, every starting job with that count).
+
+    The first job of a window lies in W1 + 1 to W1 + H/T1.
+    """
+    answer = warm_up(tasks)
+    if answer[0] != "ok":
+        return answer
+    if not 1 <= k <= LARGEST_WINDOW:
+        return refused(15)
+    W1, H = answer[1][0], answer[3]
+    T1 = tasks[0][0]
+    first_jobs = range(W1 + 1, W1 + H // T1 + 1)
+    # Every job of every window is judged once.
+    missing = {}
+    for j in range(first_jobs.start, first_jobs.stop - 1 + k):
+        missing[j] = misses(tasks, j, B)
+    counts = {}
+    for first in first_jobs:
+        counts[first] = sum(missing[j] for j in range(first, first + k))
+    largest = max(counts.values())
+    return ("ok", largest,
+            {first for first in first_jobs if counts[first] == largest})
+
+
+# ---------------------------------------------------------------------------
+# Schedule file
+# ---------------------------------------------------------------------------
+
+KIND_TASK = 1
+KIND_CHAIN = 2
+KIND_END = 3
+TASK_LENGTH = 18
+END_LENGTH = 4
+CHAIN_LENGTHS = [4 + 2 * places for places in range(1, MOST_PLACES + 1)]
+
+
+def read_file(data):
+    """Reading a file: ("ok", tasks, chain), or the first fault.
+
+    tasks is a list of (number, T, D, F), chain a list of task numbers.
+    The place of a refusal is a byte offset.
+    """
+    tasks = []
+    chain = None
+    offset = 0
+    while True:
+        remaining = len(data) - offset
+        # 1: fewer than 4 bytes remain.
+        if remaining < 4:
+            return refused(1, offset)
+        length, kind = struct.unpack_from("<HH", data, offset)
+        # 2: length below 4.
+        if length < 4:
+            return refused(2, offset)
+        # 1: length runs past the file.
+        if length > remaining:
+            return refused(1, offset)
+        # 3: unknown kind.
+        if kind not in (KIND_TASK, KIND_CHAIN, KIND_END):
+            return refused(3, offset)
+        # 2: wrong length for the kind.
+        if kind == KIND_TASK and length != TASK_LENGTH:
+            return refused(2, offset)
+        if kind == KIND_CHAIN and length not in CHAIN_LENGTHS:
+            return refused(2, offset)
+        if kind == KIND_END and length != END_LENGTH:
+            return refused(2, offset)
+
+        if kind == KIND_TASK:
+            # 4: task after the chain, 33rd task.
+            if chain is not None or len(tasks) == MOST_TASKS:
+                return refused(4, offset)
+            number, T, D, F = struct.unpack_from("<HIII", data, offset + 4)
+            # 5: task number or value outside its rule.
+            if not 1 <= number <= LARGEST_TASK_NUMBER:
+                return refused(5, offset)
+            if tasks and number <= tasks[-1][0]:
+                return refused(5, offset)
+            if not task_within_rule((T, D, F)):
+                return refused(5, offset)
+            tasks.append((number, T, D, F))
+
+        elif kind == KIND_CHAIN:
+            # 4: chain first or twice.
+            if not tasks or chain is not None:
+                return refused(4, offset)
+            places = (length - 4) // 2
+            numbers = list(struct.unpack_from("<%dH" % places, data,
+                                              offset + 4))
+            # 6: unknown task in the chain.
+            known = {task[0] for task in tasks}
+            if any(number not in known for number in numbers):
+                return refused(6, offset)
+            chain = numbers
+
+        else:
+            # 4: end before the chain.
+            if chain is None:
+                return refused(4, offset)
+            # A byte after end is 4 at that byte.
+            if offset + length < len(data):
+                return refused(4, offset + length)
+            return ("ok", tasks, chain)
+
+        offset += length
+
+
+def write_file(task_count, tasks, place_count, chain, lent):
+    """Writing a file: (answer, lent bytes after).
+
+    The answer is ("ok", length), or refusal 8, 5, 6, 11.
+    Array entries past a count are no part of the schedule.
+    """
+    lent = bytes(lent)
+    # 8: task count or number of places outside its limits.
+    if not 1 <= task_count <= MOST_TASKS:
+        return (refused(8), lent)
+    if not 1 <= place_count <= MOST_PLACES:
+        return (refused(8), lent)
+    counted = list(tasks[:task_count])
+    numbers = list(chain[:place_count])
+    # 5: lowest task outside its rule.
+    for position, (number, T, D, F) in enumerate(counted, start=1):
+        if not 1 <= number <= LARGEST_TASK_NUMBER:
+            return (refused(5, position), lent)
+        if position > 1 and number <= counted[position - 2][0]:
+            return (refused(5, position), lent)
+        if not task_within_rule((T, D, F)):
+            return (refused(5, position), lent)
+    # 6: lowest chain position with an unknown task.
+    known = {task[0] for task in counted}
+    for position, number in enumerate(numbers, start=1):
+        if number not in known:
+            return (refused(6, position), lent)
+    # Tasks, chain, end.
+    file = b""
+    for number, T, D, F in counted:
+        file += struct.pack("<HHHIII", TASK_LENGTH, KIND_TASK,
+                            number, T, D, F)
+    file += struct.pack("<HH", 4 + 2 * place_count, KIND_CHAIN)
+    for number in numbers:
+        file += struct.pack("<H", number)
+    file += struct.pack("<HH", END_LENGTH, KIND_END)
+    # 11: lent bytes shorter than the file.
+    if len(lent) < len(file):
+        return (refused(11), lent)
+    return (("ok", len(file)), file + lent[len(file):])
+
+
+# ---------------------------------------------------------------------------
+# Program chainreport
+# ---------------------------------------------------------------------------
+
+def chain_of_schedule(tasks, chain):
+    """The chain's places as (T, D, F), from a read schedule."""
+    by_number = {number: (T, D, F) for number, T, D, F in tasks}
+    return [by_number[number] for number in chain]
+
+
+def longest_period_place(tasks):
+    """The place with the longest period, lowest place among equals."""
+    periods = [period for period, _duration, _phase in tasks]
+    return periods.index(max(periods)) + 1
+
+
+def report(data):
+    """The whole text that chainreport prints for this input."""
+    def refusal_line(answer):
+        return ("refused %d %d\n" % (answer[1], answer[2])).encode("ascii")
+
+    # Of a longer input the first 4,096 bytes are judged.
+    schedule = read_file(bytes(data[:REPORT_BYTES]))
+    if schedule[0] != "ok":
+        return refusal_line(schedule)
+    tasks = chain_of_schedule(schedule[1], schedule[2])
+    p = longest_period_place(tasks)
+    slots = [0] * REPORT_SLOTS
+    answer, starts, latencies = make(tasks, p, slots, slots)
+    if answer[0] != "ok":
+        return refusal_line(answer)
+    _ok, g, x0, H, walked = answer
+    lines = ["warm %d" % x0, "hyper %d" % H, "anchors %d" % g]
+    for index in range(g):
+        lines.append("a %d %d" % (starts[index], latencies[index]))
+    lines.append("max %d" % greatest(starts, latencies, g, H)[1])
+    lines.append("low %d" % low(starts, latencies, g, H)[1])
+    lines.append("mean %d %d" % mean(starts, latencies, g, H)[1:])
+    lines.append("walked %d" % walked)
+    return ("\n".join(lines) + "\n").encode("ascii")
+
+
+if __name__ == "__main__":
+    import sys
+    sys.stdout.buffer.write(report(sys.stdin.buffer.read()))
