@@ -1,10 +1,15 @@
 // A chain of tasks by value: its checks, its hyperperiod, the ways forward and backward along its places, warm-up, delay and age.
-// Entry points are `verdict`, `warm_up`, `delay` and `age`: they take any value of their types. Places are counted from 0 in the other functions.
+// Entry points are `check`, `warm_up`, `delay` and `age`: they take any value of their types. Places are counted from 0 in the other functions.
 use refusal::Refusal;
 use task::Job;
 use task::Latest;
 use task::Task;
 use task::Tick;
+ghost use mathlib.Core.Path.{_≡_};
+ghost use Prim.Native.Nat.{_+_, _*_, _-_, _≤_, _<_};
+ghost use Rattle.task.specs.Jobs.{readOf, writeOf};
+ghost use Rattle.chain.specs.Chains.{tasksOf, at, lastPlace, forwardBy, backwardBy, jobOf};
+ghost use Rattle.chain.specs.Checks.{firstFault, hyperVerdict, verdictOf, Checked};
 
 // Document 01: one chain of 1 to 12 places; a task may fill several. Entries of `tasks` from `places` on are no part of the chain.
 pub struct Chain {
@@ -30,4 +35,124 @@ pub struct WarmUp {
 pub enum Span {
     Ticks(u64),
     Refused(Refusal),
+}
+
+// ---- the checks
+
+// The lowest position whose task has a value outside its limits, or 0.
+fn first_fault(c: Chain) -> usize
+    requires { ⌜ c .places ≤ 12 ⌝ }
+    ensures { λ r. ⌜ r ≡ firstFault 1 (tasksOf c) ⌝ }
+{
+    let n = c.places;
+    let mut i: usize = 0;
+    while i < n {
+        let a = c.tasks[i];
+        if a.within_limits() {
+            i += 1;
+        } else {
+            return i + 1;
+        }
+    }
+    0
+}
+
+// Accepted with the hyperperiod, or 7. The multiple only grows, so the first value above the limit decides.
+fn hyper_verdict(c: Chain) -> Verdict
+    requires { ⌜ Checked c ⌝ }
+    ensures { λ r. ⌜ r ≡ hyperVerdict (tasksOf c) ⌝ }
+{
+    let n = c.places;
+    let mut h: u64 = 1;
+    let mut i: usize = 0;
+    while i < n {
+        let a = c.tasks[i];
+        h = euclid::lcm(h, a.period);
+        if 60000000 < h {
+            return Verdict::Refused(Refusal {
+                number: 7,
+                place: 0,
+            });
+        }
+        i += 1;
+    }
+    Verdict::Accepted(h)
+}
+
+// The checks of a chain to be analysed, in document 01's order: 8, 5, 7.
+pub fn check(c: Chain) -> Verdict
+    ensures { λ r. ⌜ r ≡ verdictOf c ⌝ }
+{
+    if c.places < 1 {
+        return Verdict::Refused(Refusal {
+            number: 8,
+            place: 0,
+        });
+    }
+    if 12 < c.places {
+        return Verdict::Refused(Refusal {
+            number: 8,
+            place: 0,
+        });
+    }
+    let p = first_fault(c);
+    if p != 0 {
+        return Verdict::Refused(Refusal {
+            number: 5,
+            place: p,
+        });
+    }
+    hyper_verdict(c)
+}
+
+// ---- the ways along a chain that passes 8 and 5
+
+// From job j at place p forward to place q.
+pub fn forward(c: Chain, p: usize, q: usize, j: Job) -> Job
+    requires { ⌜ (Checked c) × (p ≤ q) × (q < c .places) × (writeOf (at (tasksOf c) p) (j .0) ≤ 1500000000000) ⌝ }
+    ensures { λ r. ⌜ r .0 ≡ forwardBy (tasksOf c) p (q - p) (j .0) ⌝ }
+{
+    let mut k = j;
+    let mut i = p;
+    while i < q {
+        let a = c.tasks[i];
+        i += 1;
+        let b = c.tasks[i];
+        k = a.forward_to(b, k);
+    }
+    k
+}
+
+// From job m at place q backward to place p; there may be none.
+pub fn backward(c: Chain, p: usize, q: usize, m: Job) -> Latest
+    requires { ⌜ (Checked c) × (p ≤ q) × (q < c .places) × (readOf (at (tasksOf c) q) (m .0) ≤ 1500000000000) ⌝ }
+    ensures { λ r. ⌜ r ≡ backwardBy (tasksOf c) p (q - p) (m .0) ⌝ }
+{
+    let mut k = m;
+    let mut i = q;
+    while p < i {
+        let b = c.tasks[i];
+        i -= 1;
+        let a = c.tasks[i];
+        let found = b.backward_to(a, k);
+        match found {
+            Latest::Of(j) => {
+                k = j;
+            }
+            Latest::Nothing => {
+                return Latest::Nothing;
+            }
+        }
+    }
+    Latest::Of(k)
+}
+
+// The job found, and 0 where there is none.
+pub fn job_of(found: Latest) -> Job
+    ensures { λ r. ⌜ r .0 ≡ jobOf found ⌝ }
+{
+    match found {
+        Latest::Of(j) => j,
+        Latest::Nothing => Job(0),
+    }
 }

@@ -1,0 +1,126 @@
+-- What the checks 8, 5 and 7 say of a chain, and the steps of the loops that make them.
+use Prim.Native.Nat.{ℕ, zero, suc, _+_, _-_, _≤_, _<_}
+use native.Mathlib.Omega.{arith}
+use mathlib.Core.Path.{_≡_, refl, sym, ap, _∙_}
+use mathlib.Core.Bool.{Bool, true, false, cond, _&&_}
+use mathlib.Core.List.{List, [], _∷_}
+use lib.Dec.{leb}
+use lib.ListN.{length, drop, length-drop}
+use lib.Seq.{getD-take, getD-drop, length-take-le}
+use borrow.Author.Tests.{le-leb, lt-leb, leb-true}
+use Rattle.refusal.specs.declared.Refusal.{Refusal}
+use Rattle.refusal.specs.Refusals.{refusal}
+use Rattle.task.specs.declared.Task.{Task}
+use Rattle.task.specs.Jobs.{withinLimits, Within}
+use Rattle.task.specs.LinkLaws.{limits}
+use Rattle.euclid.specs.Divisor.{lcmOf}
+use Rattle.chain.specs.declared.Chain.{Chain}
+use Rattle.chain.specs.declared.Verdict.{Verdict}
+use Rattle.chain.specs.declared.Verdict.the-variants.{Accepted, Refused}
+use Rattle.chain.specs.Chains.{tasksOf, at, zeroTask}
+use Rattle.chain.specs.Hyperperiod.{hyperFrom, hyperOf}
+use Rattle.chain.specs.Checks.{firstFault, afterFault, hyperVerdict, verdictOf, Sound, Checked}
+
+-- ---- 5
+
+pub fault-past : (p : ℕ) (a : Task) (l : List Task) → withinLimits a ≡ true → firstFault p (a ∷ l) ≡ firstFault (p + 1) l
+unfolding firstFault
+fault-past p a l h = rw h
+
+pub fault-here : (p : ℕ) (a : Task) (l : List Task) → withinLimits a ≡ false → firstFault p (a ∷ l) ≡ p
+unfolding firstFault
+fault-here p a l h = rw h
+
+pub fault-none : (p : ℕ) → firstFault p [] ≡ 0
+unfolding firstFault
+fault-none p = refl
+
+-- of a list with no fault every task is within its limits
+fault-each : (l : List Task) (p i : ℕ) → 1 ≤ p → firstFault p l ≡ 0 → i < length l → Within (at l i)
+unfolding firstFault
+fault-each [] p i pos f h = absurd (omega arith)
+fault-each (a ∷ l) p i pos f h = go (withinLimits a) refl f (λ g k. fault-each l (p + 1) k (omega arith) g) i h
+  where
+    go : (t : Bool) → withinLimits a ≡ t → cond t (firstFault (p + 1) l) p ≡ 0
+        → (firstFault (p + 1) l ≡ 0 → (k : ℕ) → k < length l → Within (at l k)) → (i : ℕ) → i < length (a ∷ l) → Within (at (a ∷ l) i)
+    go true e f ih zero h = limits a e
+    go true e f ih (suc i) h = ih f i (omega arith)
+    go false e f ih i h = absurd (omega arith)
+
+-- a chain that passes 8 and 5
+pub checked : (c : Chain) → length (c .tasks) ≡ 12 → 1 ≤ c .places → c .places ≤ 12 → firstFault 1 (tasksOf c) ≡ 0 → Checked c
+checked c twelve low high f =
+    let e : length (tasksOf c) ≡ c .places = length-take-le (c .places) (c .tasks) (omega arith) in
+    record { counted = e; sound = record { some = omega arith; few = omega arith; each = λ p h. fault-each (tasksOf c) 1 p (omega arith) f h } }
+
+-- a place's task is the array's entry
+pub at-place : (c : Chain) (p : ℕ) → p < c .places → at (tasksOf c) p ≡ at (c .tasks) p
+at-place c p h = getD-take (c .places) (c .tasks) p zeroTask h
+
+pub place-within : (c : Chain) → Checked c → (p : ℕ) → p < c .places → Within (at (c .tasks) p)
+place-within c k p h = rw (at-place c p h) at (k .sound .each p (omega (arith, k .counted)))
+
+-- ---- 7
+
+pub hyper-cons : (h : ℕ) (a : Task) (l : List Task) → hyperFrom h (a ∷ l) ≡ hyperFrom (lcmOf h (a .period)) l
+unfolding hyperFrom
+hyper-cons h a l = refl
+
+pub hyper-nil : (h : ℕ) → hyperFrom h [] ≡ h
+unfolding hyperFrom
+hyper-nil h = refl
+
+pub hyper-accepted : (l : List Task) (h : ℕ) → hyperOf l ≡ h → h ≤ 60000000 → Accepted h ≡ hyperVerdict l
+unfolding hyperVerdict
+hyper-accepted l h e g = rw (e, le-leb h 60000000 g)
+
+pub hyper-above : (l : List Task) → 60000000 < hyperOf l → Refused (refusal 7 0) ≡ hyperVerdict l
+unfolding hyperVerdict
+hyper-above l g = rw (lt-leb (hyperOf l) 60000000 g)
+
+-- ---- all three
+
+module _ (c : Chain) where
+  pub check-low : c .places < 1 → Refused (refusal 8 0) ≡ verdictOf c
+  unfolding verdictOf
+  check-low h = rw (lt-leb 1 (c .places) h)
+
+  pub check-high : 1 ≤ c .places → 12 < c .places → Refused (refusal 8 0) ≡ verdictOf c
+  unfolding verdictOf
+  check-high g h = rw (le-leb 1 (c .places) g, lt-leb (c .places) 12 h)
+
+  module _ (low : 1 ≤ c .places) (high : c .places ≤ 12) where
+    pub check-fault : (p : ℕ) → p ≡ firstFault 1 (tasksOf c) → (p ≡ 0 → ⊥) → Refused (refusal 5 p) ≡ verdictOf c
+    unfolding verdictOf
+    check-fault zero e n = absurd (n refl)
+    check-fault (suc p) e n = rw (le-leb 1 (c .places) low, le-leb (c .places) 12 high, sym e)
+
+    pub check-hyper : 0 ≡ firstFault 1 (tasksOf c) → hyperVerdict (tasksOf c) ≡ verdictOf c
+    unfolding verdictOf
+    check-hyper e = rw (le-leb 1 (c .places) low, le-leb (c .places) 12 high, sym e)
+
+  -- what an accepted chain has
+  pub record Facts (h : ℕ) : Type 0 where
+    pub passes : Checked c
+    pub hyper : h ≡ hyperOf (tasksOf c)
+    pub small : h ≤ 60000000
+
+  pub accepted : (h : ℕ) → length (c .tasks) ≡ 12 → verdictOf c ≡ Accepted h → Facts h
+  unfolding verdictOf hyperVerdict
+  accepted h twelve e = go (leb 1 (c .places)) (leb (c .places) 12) (firstFault 1 (tasksOf c)) (leb (hyperOf (tasksOf c)) 60000000) refl refl refl refl e
+    where
+      go : (a b : Bool) (f : ℕ) (d : Bool) → leb 1 (c .places) ≡ a → leb (c .places) 12 ≡ b → firstFault 1 (tasksOf c) ≡ f → leb (hyperOf (tasksOf c)) 60000000 ≡ d
+          → cond (a && b) (afterFault f (cond d (Accepted (hyperOf (tasksOf c))) (Refused (refusal 7 0)))) (Refused (refusal 8 0)) ≡ Accepted h → Facts h
+      go true true zero true x y f d k =
+          let z : hyperOf (tasksOf c) ≡ h = cc in
+          record { passes = checked c twelve (leb-true _ _ x) (leb-true _ _ y) f; hyper = sym z; small = omega (arith, leb-true (hyperOf (tasksOf c)) 60000000 d) }
+      go true true zero false x y f d k = absurd (let z : _≡_ {A = ℕ} 0 1 = cc in omega arith)
+      go true true (suc p) b x y f d k = absurd (let z : _≡_ {A = ℕ} 0 1 = cc in omega arith)
+      go true false p b x y f d k = absurd (let z : _≡_ {A = ℕ} 0 1 = cc in omega arith)
+      go false t p b x y f d k = absurd (let z : _≡_ {A = ℕ} 0 1 = cc in omega arith)
+
+-- the periods of what is left of the tasks
+pub rest-periods : (l : List Task) → Sound l → (i p : ℕ) → p < length (drop i l) → 1 ≤ at (drop i l) p .period
+rest-periods l ok i p h =
+    let e : length (drop i l) ≡ length l - i = length-drop i l in
+    rw (getD-drop i l p zeroTask) (ok .each (i + p) (omega arith) .period-pos)
