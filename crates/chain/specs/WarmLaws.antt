@@ -15,7 +15,7 @@ use Rattle.chain.specs.Chains.{at, lastPlace, forwardBy, backwardBy, onL
 use Rattle.chain.specs.Checks.{Sound}
 use Rattle.chain.specs.WarmUp.{isJob, reaches, leastFrom, warmLast, warmAt}
 use Rattle.task.specs.Jobs.{writeOf}
-use Rattle.task.specs.Links.{latestBy}
+use Rattle.task.specs.Links.{backwardLink, latestBy}
 use Rattle.task.specs.LinkLaws.{latest-is}
 use Rattle.chain.specs.Delay.{firstAged}
 use Rattle.chain.specs.Galois.{Periods, galois, forward-cut, backward-cut}
@@ -138,3 +138,19 @@ module _ (l : List Task) (ok : Sound l) where
     -- so from the warm-up job on the way backward from place p has its end
     pub start-there : (m : ℕ) → warmAt l p ≤ m → Found (backwardBy l 0 p m)
     start-there m g = found (backwardBy l 0 p m) 0 (galois l 0 p head 0 m .0 (omega (arith, warm-come)))
+
+  -- W at a place is one link back from W at the next place
+  pub warm-step : (p : ℕ) → p + 1 < length l → warmAt l p ≡ jobOf (backwardLink (at l p) (at l (p + 1)) (warmAt l (p + 1)))
+  unfolding warmAt backwardBy onLatest
+  warm-step p h =
+      let e : lastPlace l - p ≡ 1 + (lastPlace l - (p + 1)) = omega arith in
+      let f = warm-found (p + 1) h in
+      let z : p + 0 ≡ p = omega arith in
+      ap (λ (n : ℕ). jobOf (backwardBy l p n (warmLast l))) e ∙ ap jobOf (backward-cut l p 1 (lastPlace l - (p + 1)) (warmLast l))
+      ∙ ap (λ (q : Latest). jobOf (onLatest q (backwardBy l p 1))) (f .is)
+      ∙ ap (λ (n : ℕ). jobOf (onLatest (backwardLink (at l n) (at l (p + 1)) (f .job .0)) (backwardBy l p 0))) z
+      ∙ one (backwardLink (at l p) (at l (p + 1)) (f .job .0)) ∙ ap (λ (q : Latest). jobOf (backwardLink (at l p) (at l (p + 1)) (jobOf q))) (sym (f .is))
+    where
+      one : (q : Latest) → jobOf (onLatest q (backwardBy l p 0)) ≡ jobOf q
+      one (Of j) = refl
+      one Nothing = refl
