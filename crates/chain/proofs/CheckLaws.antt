@@ -5,7 +5,7 @@ use mathlib.Core.Path.{_≡_, refl, sym, ap, _∙_}
 use mathlib.Core.Bool.{Bool, true, false, cond, _&&_}
 use mathlib.Core.List.{List, [], _∷_}
 use lib.Dec.{leb}
-use lib.ListN.{length, drop, length-drop}
+use lib.ListN.{length, drop, length-drop, length-take}
 use lib.Seq.{getD-take, getD-drop, length-take-le}
 use borrow.Author.Tests.{le-leb, lt-leb, leb-true}
 use Rattle.refusal.specs.declared.Refusal.{Refusal}
@@ -124,3 +124,33 @@ pub rest-periods : (l : List Task) → Sound l → (i p : ℕ) → p < length (d
 rest-periods l ok i p h =
     let e : length (drop i l) ≡ length l - i = length-drop i l in
     rw (getD-drop i l p zeroTask) (ok .each (i + p) (omega arith) .period-pos)
+
+-- ---- a refusal's number and place are small
+
+-- a fault's position is one of the list's
+fault-small : (l : List Task) (p : ℕ) → firstFault p l ≤ p + length l
+unfolding firstFault
+fault-small [] p = omega arith
+fault-small (a ∷ l) p = go (withinLimits a) (fault-small l (p + 1))
+  where
+    go : (t : Bool) → firstFault (p + 1) l ≤ p + 1 + length l → cond t (firstFault (p + 1) l) p ≤ p + suc (length l)
+    go true ih = omega arith
+    go false ih = omega arith
+
+abbrev pub SmallVerdict : Verdict → Type 0
+SmallVerdict (Accepted h) = Unit {0}
+SmallVerdict (Refused r) = (r .number < 256) × (r .place ≤ 100)
+
+pub verdict-small : (c : Chain) → SmallVerdict (verdictOf c)
+unfolding verdictOf hyperVerdict
+verdict-small c = go (leb 1 (c .places)) (leb (c .places) 12) (firstFault 1 (tasksOf c)) (leb (hyperOf (tasksOf c)) 60000000) refl (fault-small (tasksOf c) 1)
+  where
+    go : (a b : Bool) (f : ℕ) (d : Bool) → leb (c .places) 12 ≡ b → f ≤ 1 + length (tasksOf c)
+        → SmallVerdict (cond (a && b) (afterFault f (cond d (Accepted (hyperOf (tasksOf c))) (Refused (refusal 7 0)))) (Refused (refusal 8 0)))
+    go true true zero true e h = tt
+    go true true zero false e h = (omega arith, omega arith)
+    go true true (suc p) d e h =
+        let n : c .places ≤ 12 = leb-true (c .places) 12 e in
+        (omega arith, omega (arith, length-take (c .places) (c .tasks)))
+    go true false f d e h = (omega arith, omega arith)
+    go false b f d e h = (omega arith, omega arith)

@@ -1,12 +1,7 @@
 pub mod Chains
 pub mod Hyperperiod
-pub mod WarmUp
-pub mod Delay
 pub mod Checks
-pub mod Answers
 pub mod Multiples
 pub mod Galois
 pub mod GaloisPair
-pub mod WarmLaws
-pub mod Period
 pub mod Ranges

@@ -1,0 +1,6 @@
+pub mod WarmUp
+pub mod Delay
+pub mod Answers
+pub mod WarmLaws
+pub mod WarmRanges
+pub mod Period
