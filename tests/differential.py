@@ -1,0 +1,113 @@
+"""The differential test: every proved call against the reference program, on fixed random, boundary and damaged inputs.
+
+    python3 tests/differential.py [--count FACTOR] [--seed SEED]
+
+Each group prints its number of comparisons; the last line is 'N passed, M failed', in groups. A disagreement is printed with its input.
+"""
+import argparse
+import os
+import random
+import sys
+import time
+
+HERE = os.path.dirname(os.path.abspath(__file__))
+sys.path[:0] = [HERE, os.path.join(os.path.dirname(HERE), "reference")]
+import inputs
+import library
+import meshorchard_reference as reference
+
+GROUPS = []
+
+
+def group(function):
+    GROUPS.append(function)
+    return function
+
+
+class Comparison:
+    """Compares answers, counts them and keeps the first few disagreements."""
+
+    def __init__(self):
+        self.made = 0
+        self.wrong = []
+
+    def same(self, ours, theirs, *about):
+        self.made += 1
+        if ours != theirs:
+            self.wrong.append((about, ours, theirs))
+
+
+def padded(answer):
+    """The reference's warm-up with the zeros that the array has past the places."""
+    if answer[0] == "ok":
+        return ("ok", answer[1] + [0] * (12 - len(answer[1])), answer[2], answer[3])
+    return answer
+
+
+def lent(r, tasks):
+    """A chain as it is lent to C: its numbers, often with rubbish past the count."""
+    numbers = inputs.flat(tasks)
+    return numbers + (inputs.rubbish(r) if r.random() < 0.5 else [])
+
+
+@group
+def chains(ours, r, factor, compare):
+    """checks, warm-up, delay and age"""
+    for _ in range(int(4000 * factor)):
+        tasks = inputs.any_chain(r)
+        numbers, n = lent(r, tasks), len(tasks)
+        compare.same(ours.check(numbers, n), reference.check_chain(tasks), "check", tasks)
+        warm = reference.warm_up(tasks)
+        compare.same(ours.warm_up(numbers, n), padded(warm), "warm-up", tasks)
+        middles = []
+        if warm[0] == "ok":
+            _, jobs, x0, h = warm
+            t, d, f = tasks[-1]
+            middles = [x0, x0 + h, f + jobs[-1] * t + d, f + (jobs[-1] + 1) * t + d]
+        for tick in inputs.ticks_around(r, middles, 7):
+            compare.same(ours.delay(numbers, n, tick), reference.delay(tasks, tick), "delay", tasks, tick)
+            compare.same(ours.age(numbers, n, tick), reference.age(tasks, tick), "age", tasks, tick)
+
+
+@group
+def lists_of_tasks(ours, r, factor, compare):
+    """lists of numbers that are no chain"""
+    for _ in range(int(500 * factor)):
+        tasks = inputs.chain(r)
+        numbers = inputs.flat(tasks) + [r.randint(1, 9) for _ in range(r.choice([1, 2, 4, 5]))]
+        places = r.choice([len(tasks), 1, 12])
+        eight = ("refused", 8, 0)
+        compare.same(ours.delay(numbers, places, 100), eight, "length", numbers)
+        compare.same(ours.warm_up(numbers, places), eight, "length", numbers)
+        whole = inputs.flat(tasks)
+        for places in (len(tasks) + 1, 13, 2**32, 2**63, library.LARGEST):
+            compare.same(ours.age(whole, places, 100), eight, "places", whole, places)
+            compare.same(ours.check(whole, places), eight, "places", whole, places)
+
+
+def main():
+    parser = argparse.ArgumentParser()
+    parser.add_argument("--count", type=float, default=1.0, help="how much longer than usual")
+    parser.add_argument("--seed", type=int, default=20261115)
+    chosen = parser.parse_args()
+    ours = library.build()
+    print(f"differential test, seed {chosen.seed}, count {chosen.count}")
+    passed = failed = 0
+    for run in GROUPS:
+        compare, began = Comparison(), time.time()
+        run(ours, random.Random(f"{chosen.seed} {run.__name__}"), chosen.count, compare)
+        wrong = len(compare.wrong)
+        print(f"{run.__doc__.strip()}: {compare.made} comparisons, {wrong} disagree ({time.time() - began:.1f} s)")
+        for about, mine, other in compare.wrong[:5]:
+            print(f"  {about}: the program says {mine}, the reference {other}")
+        # A group that compares nothing shows nothing.
+        if wrong == 0 and compare.made > 0:
+            passed += 1
+        else:
+            failed += 1
+    print(f"{passed} passed, {failed} failed")
+    sys.exit(0 if failed == 0 else 1)
+
+
+if __name__ == "__main__":
+    main()
