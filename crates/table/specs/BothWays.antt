@@ -19,7 +19,7 @@ both true b h = (refl, h)
 both false b h = absurd (false≢true h)
 
 -- an anchor that fits
-abbrev Fitting : ℕ → ℕ → ℕ → Type 0
+abbrev pub Fitting : ℕ → ℕ → ℕ → Type 0
 Fitting start next latency = (start < next) × (latency ≤ latencyLimit) × (next - start < latency)
 
 fitting-true : (start next latency : ℕ) → fitting start next latency ≡ true → Fitting start next latency
@@ -41,10 +41,10 @@ spaced-true limit (x ∷ l) h =
     (b .0, b .1, b .2, spaced-true limit l (a .1))
 
 -- what the numbers beside the lists say
-abbrev Measured : ℕ → ℕ → ℕ → ℕ → Type 0
+abbrev pub Measured : ℕ → ℕ → ℕ → ℕ → Type 0
 Measured n m g H = (n ≡ m) × (1 ≤ g) × (g ≤ n) × (1 ≤ H) × (H ≤ hyperLimit)
 
-measured-true : (n m g H : ℕ) → measured n m g H ≡ true → Measured n m g H
+pub measured-true : (n m g H : ℕ) → measured n m g H ≡ true → Measured n m g H
 measured-true n m g H h =
     let a = both (eqb n m) _ h in
     let b = both (leb 1 g) _ (a .1) in
