@@ -2,13 +2,17 @@
 use mathlib.Core.Path.{_≡_, refl, sym, _∙_}
 use mathlib.Core.Bool.{Bool, true, false}
 use mathlib.Core.List.{List}
-use Prim.Native.Nat.{ℕ, _+_, _≤_, _<_}
+use Prim.Native.Nat.{ℕ, _+_, _-_, _%_, _≤_, _<_}
 use native.Mathlib.Omega.{arith}
 use lib.ListN.{length, getD, drop}
-use borrow.Author.Tests.{le-leb, lt-leb}
-use Rattle.table.specs.Anchors.{anchors}
-use Rattle.table.specs.WellFormed.{firstStartLimit, _and_, fitting, spaced, measured, wellFormed}
-use Rattle.table.specs.BothWays.{measured-true}
+use borrow.Author.Tests.{le-leb, lt-leb, lt-ltb, le-ltb}
+use Rattle.table.specs.Anchors.{anchors, firstStart}
+use Rattle.table.specs.WellFormed.{firstStartLimit, _and_, fitting, spaced, measured, wellFormed, WellFormed}
+use Rattle.table.specs.BothWays.{measured-true, well-formed-iff}
+use Rattle.refusal.specs.Refusals.{refusal}
+use Rattle.table.specs.declared.Reading.the-variants.{Delay, Refused}
+use Rattle.table.specs.Reading.{delayAt, upperTick, reading}
+use Rattle.table.specs.Delays.{LastStart, delay-place, delay-least}
 use Rattle.table.specs.Places.{first-at, spaced-at, spaced-end, next-inner, next-last}
 
 and-true : (b : Bool) → (b and true) ≡ b
@@ -50,3 +54,37 @@ module _ (s v : List ℕ) (g H : ℕ) (m : Bool) (e : m ≡ measured (length s) 
   formed-rest k h r d =
       let a = measured-true (length s) (length v) g H (sym e ∙ k) in
       rw (← e, k, first-at s v g (a .2) (omega arith) (a .1), le-leb (getD s 0 0) firstStartLimit h) d
+
+-- what the answer of the test says
+pub well : (s v : List ℕ) (g H : ℕ) (w : Bool) → w ≡ wellFormed s v g H → w ≡ true → WellFormed s v g H
+well s v g H w e k = well-formed-iff s v g H .0 (sym e ∙ k)
+
+-- reading at t
+module _ (s v : List ℕ) (g H t : ℕ) (w : Bool) (e : w ≡ wellFormed s v g H) where
+  pub read-unformed : w ≡ false → Refused (refusal 14 0) ≡ reading s v g H t
+  unfolding reading
+  read-unformed k = rw (← e, k)
+
+  module _ (k : w ≡ true) where
+    first : firstStart (anchors s v g) ≡ getD s 0 0
+    first = let f = well s v g H w e k in first-at s v g (f .fits) (omega arith) (f .some)
+
+    pub read-early : t < getD s 0 0 → Refused (refusal 12 0) ≡ reading s v g H t
+    unfolding reading
+    read-early h = rw (← e, k, first, lt-ltb t (getD s 0 0) h)
+
+    pub read-late : getD s 0 0 ≤ t → upperTick < t → Refused (refusal 13 0) ≡ reading s v g H t
+    unfolding reading
+    read-late h u = rw (← e, k, first, le-ltb t (getD s 0 0) h, lt-ltb upperTick t u)
+
+    module _ (h : getD s 0 0 ≤ t) (i : ℕ) (l : LastStart s g (getD s 0 0 + (t - getD s 0 0) % H) i) where
+      -- the delay is above 0, so the subtraction is exact
+      pub read-room : getD s 0 0 + (t - getD s 0 0) % H - getD s i 0 ≤ getD v i 0
+      read-room =
+          let f = well s v g H w e k in
+          omega (arith, delay-place s v g H f t i l, delay-least s v g H f t (rw first h))
+
+      pub read-delay : t ≤ upperTick → Delay (getD v i 0 - (getD s 0 0 + (t - getD s 0 0) % H - getD s i 0)) ≡ reading s v g H t
+      unfolding reading
+      read-delay u =
+          rw (← e, k, first, le-ltb t (getD s 0 0) h, le-ltb upperTick t u, delay-place s v g H (well s v g H w e k) t i l)

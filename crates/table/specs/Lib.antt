@@ -13,4 +13,5 @@ pub mod Exceeding
 pub mod Places
 pub mod BothWays
 pub mod Delays
+pub mod Words
 pub mod Survey

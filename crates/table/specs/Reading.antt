@@ -36,7 +36,7 @@ reading starts latencies g H t =
     (cond (ltb upperTick t) (Refused (refusal 13 0)) (Delay (delayAt H (anchors starts latencies g) t))))
     (Refused (refusal 14 0))
 
--- The answer for C, one number: the delay, or 2^32 + the refusal's number. A delay lies below 2^32 (`delay-small` in Delays).
+-- The answer for C, one number: the delay, or 2^32 + the refusal's number. That a delay lies below 2^32 is `word-small` in Words.
 abbrev pub wordOf : Reading → ℕ
 wordOf (Delay d) = d
 wordOf (Refused r) = 4294967296 + r .number

@@ -2,15 +2,19 @@
 use refusal::Refusal;
 ghost use mathlib.Core.Path.{_≡_};
 ghost use Prim.Native.Nat.{_≤_};
-ghost use lib.ListN.{length};
+ghost use lib.ListN.{length, getD};
 ghost use Rattle.table.specs.Anchors.{anchors};
 ghost use Rattle.table.specs.WellFormed.{fitting, measured, spaced, wellFormed};
+ghost use Rattle.table.specs.Reading.{reading, wordOf};
+ghost use Rattle.table.specs.Delays.{LastStart};
 
 const HYPER_LIMIT: u64 = 60000000;
 
 const LATENCY_LIMIT: u64 = 60000000;
 
 const FIRST_START_LIMIT: u64 = 1000000000;
+
+const UPPER_TICK: u64 = 1000000000000;
 
 // The delay at a tick.
 pub enum Reading {
@@ -111,4 +115,62 @@ pub fn is_well_formed(starts: &[u64], latencies: &[u64], g: usize, h: u64) -> bo
         return false;
     }
     is_spaced(starts, latencies, g, first + h)
+}
+
+// The place of the last start at most u, by halving: the start at `at` is at most u, the one at `past` is above u.
+fn anchor_at(starts: &[u64], g: usize, u: u64) -> usize
+    requires { ⌜ (1 ≤ g) × (g ≤ length (now starts)) × (getD (now starts) 0 0 ≤ u) ⌝ }
+    ensures { λ r. ⌜ LastStart (now (starts .entry)) g u r ⌝ }
+{
+    let mut at = 0;
+    let mut past = g;
+    while 1 < past - at {
+        let middle = at + (past - at) / 2;
+        if u < starts[middle] {
+            past = middle;
+        } else {
+            at = middle;
+        }
+    }
+    at
+}
+
+// The delay that a table gives at tick t.
+pub fn read_at(starts: &[u64], latencies: &[u64], g: usize, h: u64, t: u64) -> Reading
+    ensures { λ r. ⌜ r ≡ reading (now (starts .entry)) (now (latencies .entry)) g h t ⌝ }
+{
+    if !is_well_formed(starts, latencies, g, h) {
+        return Reading::Refused(Refusal {
+            number: 14,
+            place: 0,
+        });
+    }
+    let first = starts[0];
+    if t < first {
+        return Reading::Refused(Refusal {
+            number: 12,
+            place: 0,
+        });
+    }
+    if UPPER_TICK < t {
+        return Reading::Refused(Refusal {
+            number: 13,
+            place: 0,
+        });
+    }
+    let u = first + (t - first) % h;
+    let i = anchor_at(starts, g, u);
+    Reading::Delay(latencies[i] - (u - starts[i]))
+}
+
+// Reading for C, one number: the delay, which lies below 2^32, or 2^32 + the refusal's number.
+#[no_mangle]
+pub extern "C" fn mo_read_table(starts: &[u64], latencies: &[u64], g: u64, h: u64, t: u64) -> u64
+    ensures { λ r. ⌜ r ≡ wordOf (reading (now (starts .entry)) (now (latencies .entry)) g h t) ⌝ }
+{
+    let r = read_at(starts, latencies, g as usize, h, t);
+    match r {
+        Reading::Delay(d) => d,
+        Reading::Refused(f) => 4294967296 + f.number,
+    }
 }
