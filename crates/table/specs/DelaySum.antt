@@ -8,9 +8,10 @@ use Rattle.table.specs.Anchors.{Anchor, firstStart}
 use Rattle.table.specs.WellFormed.{latencyLimit}
 use Rattle.table.specs.Reading.{delayAt}
 use Rattle.table.specs.Ticks.{ticks, total}
-use Rattle.table.specs.Figures.{delaySum}
+use Rattle.table.specs.Figures.{greatest, delaySum}
 use Rattle.table.specs.Folding.{plus, total-ticks}
 use Rattle.table.specs.Segments.{Spaced, Formed, segments, table-ticks}
+use Rattle.table.specs.GreatestDelay.{greatest-delay}
 
 -- what an anchor with latency v and d ticks adds: d times the sum of its first delay and its last, halved
 abbrev pub area : ℕ → ℕ → ℕ
@@ -44,6 +45,16 @@ sum-anchors H l f = rw (f .whole) (go (f .head) (f .tail) (f .spacing))
     go x l sp =
         sym (total-ticks (delayAt H (x ∷ l)) H (x .start) 0 ∙ omega arith)
         ∙ table-ticks plus addArea (λ z. Unit {0}) (λ z d v i. tt) (λ z d v i h. area-exact z d v h) H x l sp 0 tt
+
+total-bound : (f : ℕ → ℕ) (b n s : ℕ) → ((t : ℕ) → s ≤ t → f t ≤ b) → total f s n ≤ n * b
+unfolding total
+total-bound f b zero s h = omega arith
+total-bound f b (suc n) s h = omega (arith, h s (omega arith), total-bound f b n (suc s) (λ t k. h t (omega arith)))
+
+-- the sum is at most H times a bound on the delays
+pub sum-bound : (H : ℕ) (l : List Anchor) → Formed H l → greatest l ≤ latencyLimit → delaySum H l ≤ H * latencyLimit
+unfolding delaySum
+sum-bound H l f k = total-bound (delayAt H l) latencyLimit H (firstStart l) (λ t h. omega (arith, greatest-delay H l f .bound t h))
 
 -- an anchor adds at most the latency's limit for each of its ticks
 pub area-product : (d v : ℕ) → d < v → v ≤ latencyLimit → 1 ≤ d → d * (v + (v - d + 1)) ≤ d * (2 * latencyLimit)

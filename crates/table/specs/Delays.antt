@@ -75,6 +75,9 @@ module _ (s v : List ℕ) (g H : ℕ) (w : WellFormed s v g H) where
       = last-from u i f (omega (arith, mod-lt (t - getD s 0 0) (w .hyper .0))) i 0 (omega arith) x in
       rw e (ap (gives u) (o ∙ (rw e at l)))
 
+  pub greatest-small : greatest (anchors s v g) ≤ latencyLimit
+  greatest-small = greatest-limit (getD s 0 0 + H) (anchors s v g) (well-spaced s v g H w)
+
   -- a delay is at least 2 and at most the latency's limit, so below 2^32
   pub delay-least : (t : ℕ) → firstStart (anchors s v g) ≤ t → 2 ≤ delayAt H (anchors s v g) t
   delay-least t h = let f = well-formed-laws s v g H w in omega (arith, low-delay H (anchors s v g) f .above t h, low-positive H (anchors s v g) f)
@@ -82,4 +85,4 @@ module _ (s v : List ℕ) (g H : ℕ) (w : WellFormed s v g H) where
   pub delay-small : (t : ℕ) → firstStart (anchors s v g) ≤ t → delayAt H (anchors s v g) t < 4294967296
   delay-small t h =
       let f = well-formed-laws s v g H w in
-      omega (arith, greatest-delay H (anchors s v g) f .bound t h, greatest-limit (getD s 0 0 + H) (anchors s v g) (well-spaced s v g H w))
+      omega (arith, greatest-delay H (anchors s v g) f .bound t h, greatest-small)

@@ -8,6 +8,7 @@ pub mod Segments
 pub mod GreatestDelay
 pub mod LowDelay
 pub mod DelaySum
+pub mod Gathering
 pub mod LongestRun
 pub mod Exceeding
 pub mod Places

@@ -1,12 +1,15 @@
 // Tables of anchors as two lists of numbers: well-formed, reading at a tick, and the figures of a table.
 use refusal::Refusal;
 ghost use mathlib.Core.Path.{_≡_};
-ghost use Prim.Native.Nat.{_≤_};
+ghost use Prim.Native.Nat.{_+_, _-_, _*_, _≤_, _<_, min, max};
 ghost use lib.ListN.{length, getD};
 ghost use Rattle.table.specs.Anchors.{anchors};
-ghost use Rattle.table.specs.WellFormed.{fitting, measured, spaced, wellFormed};
+ghost use Rattle.table.specs.WellFormed.{hyperLimit, latencyLimit, fitting, measured, spaced, wellFormed, nextStart, WellFormed};
 ghost use Rattle.table.specs.Reading.{reading, wordOf};
+ghost use Rattle.table.specs.Figures.{greatest, low, delaySum, greatestOf, lowOf, meanOf, throughputOf};
 ghost use Rattle.table.specs.Delays.{LastStart};
+ghost use Rattle.table.specs.DelaySum.{area};
+ghost use Rattle.table.specs.Gathering.{withAnchor, Gathers};
 
 const HYPER_LIMIT: u64 = 60000000;
 
@@ -173,4 +176,124 @@ pub extern "C" fn mo_read_table(starts: &[u64], latencies: &[u64], g: u64, h: u6
         Reading::Delay(d) => d,
         Reading::Refused(f) => 4294967296 + f.number,
     }
+}
+
+fn larger(a: u64, b: u64) -> u64
+    ensures { λ r. ⌜ r ≡ max a b ⌝ }
+{
+    if a < b { b } else { a }
+}
+
+fn smaller(a: u64, b: u64) -> u64
+    ensures { λ r. ⌜ r ≡ min a b ⌝ }
+{
+    if a < b { a } else { b }
+}
+
+// What a pass over the anchors gathers.
+struct Gathered {
+    greatest: u64,
+    low: u64,
+    sum: u64,
+}
+
+// One anchor more: latency v over d ticks, whose delays fall by one from v.
+fn with_anchor(m: Gathered, d: u64, v: u64) -> Gathered
+    requires { ⌜ (1 ≤ d) × (d < v) × (v ≤ latencyLimit) × (m .sum ≤ hyperLimit * latencyLimit) ⌝ }
+    ensures { λ r. ⌜ r ≡ withAnchor m d v ⌝ }
+{
+    let greatest = larger(m.greatest, v);
+    let low = smaller(m.low, v - d);
+    let sum = m.sum + d * (v + (v - d + 1)) / 2;
+    Gathered { greatest, low, sum }
+}
+
+// The ticks from the start at place i to the next start, which is `end` after the last place.
+fn distance_at(starts: &[u64], g: usize, end: u64, i: usize) -> u64
+    requires { ⌜ (i < g) × (g ≤ length (now starts)) × (getD (now starts) i 0 ≤ nextStart (now starts) g end i) ⌝ }
+    ensures { λ r. ⌜ r ≡ nextStart (now (starts .entry)) g end i - getD (now (starts .entry)) i 0 ⌝ }
+{
+    let start = starts[i];
+    let next = i + 1;
+    if next < g {
+        return starts[next] - start;
+    }
+    end - start
+}
+
+// The figures of a well-formed table, in one pass.
+fn gather(starts: &[u64], latencies: &[u64], g: usize, h: u64) -> Gathered
+    requires { ⌜ WellFormed (now starts) (now latencies) g h ⌝ }
+    ensures { λ r. ⌜ Gathers h (anchors (now (starts .entry)) (now (latencies .entry)) g) r ⌝ }
+{
+    let end = starts[0] + h;
+    let mut m = Gathered {
+        greatest: 0,
+        low: latencies[0],
+        sum: 0,
+    };
+    let mut i = 0;
+    while i < g {
+        m = with_anchor(m, distance_at(starts, g, end, i), latencies[i]);
+        i += 1;
+    }
+    m
+}
+
+// The largest of the first g latencies.
+pub fn greatest_of(starts: &[u64], latencies: &[u64], g: usize, h: u64) -> Greatest
+    ensures { λ r. ⌜ r ≡ greatestOf (now (starts .entry)) (now (latencies .entry)) g h ⌝ }
+{
+    if !is_well_formed(starts, latencies, g, h) {
+        return Greatest::Refused(Refusal {
+            number: 14,
+            place: 0,
+        });
+    }
+    let m = gather(starts, latencies, g, h);
+    Greatest::Latency(m.greatest)
+}
+
+// The least of latency less distance to the next start.
+pub fn low_of(starts: &[u64], latencies: &[u64], g: usize, h: u64) -> Low
+    ensures { λ r. ⌜ r ≡ lowOf (now (starts .entry)) (now (latencies .entry)) g h ⌝ }
+{
+    if !is_well_formed(starts, latencies, g, h) {
+        return Low::Refused(Refusal {
+            number: 14,
+            place: 0,
+        });
+    }
+    let m = gather(starts, latencies, g, h);
+    Low::Limit(m.low)
+}
+
+// The mean delay as two numbers.
+pub fn mean_of(starts: &[u64], latencies: &[u64], g: usize, h: u64) -> Mean
+    ensures { λ r. ⌜ r ≡ meanOf (now (starts .entry)) (now (latencies .entry)) g h ⌝ }
+{
+    if !is_well_formed(starts, latencies, g, h) {
+        return Mean::Refused(Refusal {
+            number: 14,
+            place: 0,
+        });
+    }
+    let m = gather(starts, latencies, g, h);
+    Mean::Sum {
+        delays: m.sum,
+        ticks: h,
+    }
+}
+
+// g anchors in h ticks.
+pub fn throughput_of(starts: &[u64], latencies: &[u64], g: usize, h: u64) -> Throughput
+    ensures { λ r. ⌜ r ≡ throughputOf (now (starts .entry)) (now (latencies .entry)) g h ⌝ }
+{
+    if !is_well_formed(starts, latencies, g, h) {
+        return Throughput::Refused(Refusal {
+            number: 14,
+            place: 0,
+        });
+    }
+    Throughput::Anchors { count: g, ticks: h }
 }
