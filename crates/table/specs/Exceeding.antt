@@ -14,10 +14,11 @@ use Rattle.table.specs.declared.Exceedance.{Exceedance}
 use Rattle.table.specs.declared.Exceedance.the-variants.{Run, Endless, Refused}
 use Rattle.table.specs.Anchors.{Anchor, firstStart, distance}
 use Rattle.table.specs.Reading.{delayAt}
-use Rattle.table.specs.Ticks.{ticks, everyAbove, Scan, scan, tick, longestRun, Longest}
+use Rattle.table.specs.declared.Scan.{Scan}
+use Rattle.table.specs.Ticks.{ticks, everyAbove, scan, tick, longestRun, Longest}
 use Rattle.table.specs.Figures.{exceedance}
 use Rattle.table.specs.Folding.{ticks-add, ticks-same}
-use Rattle.table.specs.Segments.{Spaced, Formed, delay-again, segments, table-ticks}
+use Rattle.table.specs.Segments.{Spaced, Formed, below, delay-again, segments, table-ticks}
 use Rattle.table.specs.LongestRun.{every-run, every-scan, endless-all, longest-run}
 
 -- the delay repeats
@@ -112,17 +113,42 @@ stretch-bounded B z p d v i = go (leb d (v - B)) refl
     go true e = (omega arith, omega arith)
     go false e = (omega arith, omega (arith, leb-false d (v - B) e))
 
-stretch-keeps : (B : ℕ) (z : Scan) (d v : ℕ) → z .run ≤ z .best → stretch B z d v .run ≤ stretch B z d v .best
+stretch-best : (B : ℕ) (z : Scan) (d v : ℕ) → z .best ≤ stretch B z d v .best
+unfolding stretch
+stretch-best B z d v = go (leb d (v - B))
+  where
+    go : (t : Bool) → z .best ≤ cond t (scan (z .run + d) (max (z .best) (z .run + d))) (scan 0 (max (z .best) (z .run + (v - B)))) .best
+    go true = omega arith
+    go false = omega arith
+
+pub stretch-keeps : (B : ℕ) (z : Scan) (d v : ℕ) → z .run ≤ z .best → stretch B z d v .run ≤ stretch B z d v .best
 stretch-keeps B z d v i = stretch-bounded B z (z .best) d v (i, omega arith) .0
 
-round-keeps : (B limit : ℕ) (l : List Anchor) (z : Scan) → z .run ≤ z .best → segments (stretch B) limit l z .run ≤ segments (stretch B) limit l z .best
+segments-bounded : (B limit : ℕ) (x : Anchor) (l : List Anchor) → Spaced limit (x ∷ l) → (p : ℕ) (z : Scan) → Bounded p z
+    → Bounded (p + (limit - x .start)) (segments (stretch B) limit (x ∷ l) z)
 unfolding segments
-round-keeps B limit [] z i = i
-round-keeps B limit (x ∷ l) z i = round-keeps B limit l (stretch B z (distance limit x l) (x .latency)) (stretch-keeps B z (distance limit x l) (x .latency) i)
+segments-bounded B limit x [] sp p z i = stretch-bounded B z p (limit - x .start) (x .latency) i
+segments-bounded B limit x (y ∷ l) sp p z i =
+    let e : p + (y .start - x .start) + (limit - y .start) ≡ p + (limit - x .start) = omega (arith, below limit y l (sp .3)) in
+    rw e at (segments-bounded B limit y l (sp .3) (p + (y .start - x .start)) (stretch B z (y .start - x .start) (x .latency)) (stretch-bounded B z p (y .start - x .start) (x .latency) i))
 
 -- one round over the anchors, from the scan z
 abbrev pub round : ℕ → ℕ → List Anchor → Scan → Scan
 round B H l z = segments (stretch B) (firstStart l + H) l z
+
+pub round-bounded : (B H : ℕ) (l : List Anchor) → Formed H l → (p : ℕ) (z : Scan) → Bounded p z → Bounded (p + H) (round B H l z)
+round-bounded B H l f p z i = rw (f .whole) (go (f .head) (f .tail) (f .spacing))
+  where
+    go : (x : Anchor) (l : List Anchor) → Spaced (x .start + H) (x ∷ l) → Bounded (p + H) (round B H (x ∷ l) z)
+    go x l sp = let e : x .start + H - x .start ≡ H = omega arith in rw e at (segments-bounded B (x .start + H) x l sp p z i)
+
+-- the longest run only grows on the way
+pub best-grows : (B limit : ℕ) (l : List Anchor) (z : Scan) → z .best ≤ segments (stretch B) limit l z .best
+unfolding segments
+best-grows B limit [] z = omega arith
+best-grows B limit (x ∷ l) z =
+    let d : ℕ = distance limit x l in
+    omega (arith, best-grows B limit l (stretch B z d (x .latency)), stretch-best B z d (x .latency))
 
 -- one round of the anchors is one round of the ticks
 round-ticks : (B H : ℕ) (x : Anchor) (l : List Anchor) → Spaced (x .start + H) (x ∷ l) → (z : Scan) → z .run ≤ z .best
@@ -138,7 +164,7 @@ two-rounds B H x l sp =
     rw (e, ticks-add (tick B) (delayAt H (x ∷ l)) H H (x .start) (scan 0 0), round-ticks B H x l sp (scan 0 0) (omega arith))
     (ticks-same (tick B) (delayAt H (x ∷ l)) (delayAt H (x ∷ l)) H (x .start + H) (x .start) z
     (λ i h. let q : x .start + i + 1 * H ≡ x .start + H + i = omega arith in rw q at (delay-again H x l (x .start + i) 1 (omega arith)))
-    ∙ round-ticks B H x l sp z (round-keeps B (x .start + H) (x ∷ l) (scan 0 0) (omega arith)))
+    ∙ round-ticks B H x l sp z (segments-bounded B (x .start + H) x l sp 0 (scan 0 0) (omega arith, omega arith) .0))
 
 -- endless where the first round's run has all H ticks, else the longest of two rounds
 pub exceedance-anchors : (B H : ℕ) (l : List Anchor) → Formed H l

@@ -8,7 +8,8 @@ use native.Mathlib.Decide.{decLt, decLe}
 use native.Mathlib.Omega.{arith}
 use borrow.Author.Tests.{lt-ltb, le-ltb, le-leb, lt-leb}
 use lib.Dec.{leb}
-use Rattle.table.specs.Ticks.{ticks, everyAbove, Scan, scan, tick, longestRun, Run, Longest}
+use Rattle.table.specs.declared.Scan.{Scan}
+use Rattle.table.specs.Ticks.{ticks, everyAbove, scan, tick, longestRun, Run, Longest}
 
 -- a run of length n between two ticks
 pub record Has (B : ℕ) (f : ℕ → ℕ) (from to n : ℕ) : Type 0 where

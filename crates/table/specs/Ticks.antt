@@ -2,6 +2,7 @@
 use mathlib.Core.Bool.{Bool, true, cond, _&&_}
 use Prim.Native.Nat.{ℕ, zero, suc, _+_, _≤_, _<_, max}
 use lib.Dec.{ltb}
+use Rattle.table.specs.declared.Scan.{Scan}
 
 -- The state after the n ticks from s on, `step` taking each tick's figure.
 unfoldable pub ticks : {S : Type 0} → (S → ℕ → S) → (ℕ → ℕ) → ℕ → ℕ → S → S
@@ -19,10 +20,6 @@ everyAbove B f s zero = true
 everyAbove B f s (suc n) = ltb B (f s) && everyAbove B f (suc s) n
 
 -- The run above B that ends here, and the longest so far.
-pub record Scan : Type 0 where
-  pub run : ℕ
-  pub best : ℕ
-
 abbrev pub scan : ℕ → ℕ → Scan
 scan r b = record { run = r; best = b }
 

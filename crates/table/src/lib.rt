@@ -6,9 +6,10 @@ ghost use lib.ListN.{length, getD};
 ghost use Rattle.table.specs.Anchors.{anchors};
 ghost use Rattle.table.specs.WellFormed.{hyperLimit, latencyLimit, fitting, measured, spaced, wellFormed, nextStart, WellFormed};
 ghost use Rattle.table.specs.Reading.{reading, wordOf};
-ghost use Rattle.table.specs.Figures.{greatest, low, delaySum, greatestOf, lowOf, meanOf, throughputOf};
+ghost use Rattle.table.specs.Figures.{greatest, low, delaySum, greatestOf, lowOf, meanOf, throughputOf, exceedanceOf};
 ghost use Rattle.table.specs.Delays.{LastStart};
 ghost use Rattle.table.specs.DelaySum.{area};
+ghost use Rattle.table.specs.Exceeding.{stretch, round};
 ghost use Rattle.table.specs.Gathering.{withAnchor, Gathers};
 
 const HYPER_LIMIT: u64 = 60000000;
@@ -296,4 +297,66 @@ pub fn throughput_of(starts: &[u64], latencies: &[u64], g: usize, h: u64) -> Thr
         });
     }
     Throughput::Anchors { count: g, ticks: h }
+}
+
+// A scan of successive ticks: the run above a bound that ends here, and the longest so far.
+struct Scan {
+    run: u64,
+    best: u64,
+}
+
+// How far v lies above b; 0 where it does not.
+fn excess(v: u64, b: u64) -> u64
+    ensures { λ r. ⌜ r ≡ v - b ⌝ }
+{
+    if b < v { v - b } else { 0 }
+}
+
+// One anchor more, with latency v over d ticks: all of them have a delay above b, or the first v - b.
+fn with_stretch(z: Scan, b: u64, d: u64, v: u64) -> Scan
+    requires { ⌜ (z .run ≤ 2 * hyperLimit) × (d < v) × (v ≤ latencyLimit) ⌝ }
+    ensures { λ r. ⌜ r ≡ stretch b z d v ⌝ }
+{
+    let above = excess(v, b);
+    if d <= above {
+        let run = z.run + d;
+        let best = larger(z.best, run);
+        return Scan { run, best };
+    }
+    let best = larger(z.best, z.run + above);
+    Scan { run: 0, best }
+}
+
+// One round over the anchors of a well-formed table, from a scan on.
+fn scan_round(starts: &[u64], latencies: &[u64], g: usize, h: u64, b: u64, z: Scan) -> Scan
+    requires { ⌜ (WellFormed (now starts) (now latencies) g h) × (z .run ≤ z .best) × (z .best ≤ hyperLimit) ⌝ }
+    ensures { λ r. ⌜ r ≡ round b h (anchors (now (starts .entry)) (now (latencies .entry)) g) z ⌝ }
+{
+    let end = starts[0] + h;
+    let mut s = z;
+    let mut i = 0;
+    while i < g {
+        s = with_stretch(s, b, distance_at(starts, g, end, i), latencies[i]);
+        i += 1;
+    }
+    s
+}
+
+// The longest exceedance of b. A run may cross into the next hyperperiod, so two rounds; it has no end where the first round is one run.
+pub fn exceedance_of(starts: &[u64], latencies: &[u64], g: usize, h: u64, b: u64) -> Exceedance
+    ensures { λ r. ⌜ r ≡ exceedanceOf (now (starts .entry)) (now (latencies .entry)) g h b ⌝ }
+{
+    if !is_well_formed(starts, latencies, g, h) {
+        return Exceedance::Refused(Refusal {
+            number: 14,
+            place: 0,
+        });
+    }
+    let none = Scan { run: 0, best: 0 };
+    let once = scan_round(starts, latencies, g, h, b, none);
+    if h <= once.run {
+        return Exceedance::Endless;
+    }
+    let twice = scan_round(starts, latencies, g, h, b, once);
+    Exceedance::Run(twice.best)
 }
