@@ -10,7 +10,7 @@ use Rattle.table.specs.Reading.{delayAt}
 use Rattle.table.specs.Ticks.{ticks, total}
 use Rattle.table.specs.Figures.{greatest, delaySum}
 use Rattle.table.specs.Folding.{plus, total-ticks}
-use Rattle.table.specs.Segments.{Spaced, Formed, segments, table-ticks}
+use Rattle.table.specs.Segments.{Formed, segments, table-ticks}
 use Rattle.table.specs.GreatestDelay.{greatest-delay}
 
 -- what an anchor with latency v and d ticks adds: d times the sum of its first delay and its last, halved
@@ -39,12 +39,9 @@ area-exact z d v h =
 -- the sum over the ticks is the sum over the anchors
 pub sum-anchors : (H : ℕ) (l : List Anchor) → Formed H l → delaySum H l ≡ segments addArea (firstStart l + H) l 0
 unfolding delaySum
-sum-anchors H l f = rw (f .whole) (go (f .head) (f .tail) (f .spacing))
-  where
-    go : (x : Anchor) (l : List Anchor) → Spaced (x .start + H) (x ∷ l) → total (delayAt H (x ∷ l)) (x .start) H ≡ segments addArea (x .start + H) (x ∷ l) 0
-    go x l sp =
-        sym (total-ticks (delayAt H (x ∷ l)) H (x .start) 0 ∙ omega arith)
-        ∙ table-ticks plus addArea (λ z. Unit {0}) (λ z d v i. tt) (λ z d v i h. area-exact z d v h) H x l sp 0 tt
+sum-anchors H l f =
+    sym (total-ticks (delayAt H l) H (firstStart l) 0 ∙ omega arith)
+    ∙ table-ticks plus addArea (λ z. Unit {0}) (λ z d v i. tt) (λ z d v i h. area-exact z d v h) H l f 0 tt
 
 total-bound : (f : ℕ → ℕ) (b n s : ℕ) → ((t : ℕ) → s ≤ t → f t ≤ b) → total f s n ≤ n * b
 unfolding total

@@ -34,7 +34,7 @@ greatest-limit limit (x ∷ l) sp = omega (arith, greatest-limit limit l (sp .3)
 
 module _ (s v : List ℕ) (g H : ℕ) (w : WellFormed s v g H) where
   -- starts do not fall over k places
-  rises : (k i : ℕ) → i + k < g → getD s i 0 ≤ getD s (i + k) 0
+  pub rises : (k i : ℕ) → i + k < g → getD s i 0 ≤ getD s (i + k) 0
   rises zero i h = let e : i + 0 ≡ i = omega arith in rw e (omega arith)
   rises (suc k) i h =
       let e : i + suc k ≡ i + k + 1 = omega arith in

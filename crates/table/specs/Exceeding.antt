@@ -21,10 +21,6 @@ use Rattle.table.specs.Folding.{ticks-add, ticks-same}
 use Rattle.table.specs.Segments.{Spaced, Formed, below, delay-again, segments, table-ticks}
 use Rattle.table.specs.LongestRun.{every-run, every-scan, endless-all, longest-run}
 
--- the delay repeats
-again : (H : ℕ) (l : List Anchor) → Formed H l → (t k : ℕ) → firstStart l ≤ t → delayAt H l (t + k * H) ≡ delayAt H l t
-again H l f = rw (f .whole) (delay-again H (f .head) (f .tail))
-
 module _ (B H : ℕ) (l : List Anchor) (f : Formed H l) where
   -- endless exactly when every delay is above B
   pub exceedance-endless : (exceedance B H l ≡ Endless) ↔ ((t : ℕ) → firstStart l ≤ t → B < delayAt H l t)
@@ -33,7 +29,7 @@ module _ (B H : ℕ) (l : List Anchor) (f : Formed H l) where
     where
       go : (b : Bool) → everyAbove B (delayAt H l) (firstStart l) H ≡ b
           → cond b Endless (Run (longestRun B (delayAt H l) (firstStart l) (2 * H))) ≡ Endless → (t : ℕ) → firstStart l ≤ t → B < delayAt H l t
-      go true e h = endless-all B (delayAt H l) (firstStart l) H (f .some) (again H l f) e
+      go true e h = endless-all B (delayAt H l) (firstStart l) H (f .some) (delay-again H l f) e
       go false e h = let z : _≡_ {A = ℕ} 0 1 = cc in absurd (omega arith)
 
   longest-from : (n : ℕ) → exceedance B H l ≡ Run n → Longest B (delayAt H l) (firstStart l) n
@@ -45,7 +41,7 @@ module _ (B H : ℕ) (l : List Anchor) (f : Formed H l) where
       go true e h = let z : _≡_ {A = ℕ} 0 1 = cc in absurd (omega arith)
       go false e h =
           let z : longestRun B (delayAt H l) (firstStart l) (2 * H) ≡ n = cc in
-          rw z at (longest-run B (delayAt H l) (firstStart l) H (f .some) (again H l f) e)
+          rw z at (longest-run B (delayAt H l) (firstStart l) H (f .some) (delay-again H l f) e)
 
   never : exceedance B H l ≡ Endless → (n : ℕ) → Longest B (delayAt H l) (firstStart l) n → ⊥
   never e n k = omega (arith, k .none (firstStart l) (suc n) (omega arith) (λ t a b. exceedance-endless .0 e t a))
@@ -59,7 +55,7 @@ module _ (B H : ℕ) (l : List Anchor) (f : Formed H l) where
       go k true e = absurd (never (ap (λ (b : Bool). cond b Endless (Run (longestRun B (delayAt H l) (firstStart l) (2 * H)))) e) n k)
       go k false e =
           let m : ℕ = longestRun B (delayAt H l) (firstStart l) (2 * H) in
-          let j : Longest B (delayAt H l) (firstStart l) m = longest-run B (delayAt H l) (firstStart l) H (f .some) (again H l f) e in
+          let j : Longest B (delayAt H l) (firstStart l) m = longest-run B (delayAt H l) (firstStart l) H (f .some) (delay-again H l f) e in
           let q : m ≡ n = omega (arith, k .none (j .at) m (j .late) (j .run), j .none (k .at) n (k .late) (k .run)) in
           ap (λ (b : Bool). cond b Endless (Run m)) e ∙ ap Run q
 
@@ -150,29 +146,21 @@ best-grows B limit (x ∷ l) z =
     let d : ℕ = distance limit x l in
     omega (arith, best-grows B limit l (stretch B z d (x .latency)), stretch-best B z d (x .latency))
 
--- one round of the anchors is one round of the ticks
-round-ticks : (B H : ℕ) (x : Anchor) (l : List Anchor) → Spaced (x .start + H) (x ∷ l) → (z : Scan) → z .run ≤ z .best
-    → ticks (tick B) (delayAt H (x ∷ l)) (x .start) H z ≡ round B H (x ∷ l) z
-round-ticks B H = table-ticks (tick B) (stretch B) (λ z. z .run ≤ z .best) (stretch-keeps B) (λ z d v i h. stretch-exact B z d v i) H
+module _ (B H : ℕ) (l : List Anchor) (f : Formed H l) where
+  -- one round of the anchors is one round of the ticks
+  round-ticks : (z : Scan) → z .run ≤ z .best → ticks (tick B) (delayAt H l) (firstStart l) H z ≡ round B H l z
+  round-ticks = table-ticks (tick B) (stretch B) (λ z. z .run ≤ z .best) (stretch-keeps B) (λ z d v i h. stretch-exact B z d v i) H l f
 
--- two rounds
-two-rounds : (B H : ℕ) (x : Anchor) (l : List Anchor) → Spaced (x .start + H) (x ∷ l)
-    → ticks (tick B) (delayAt H (x ∷ l)) (x .start) (2 * H) (scan 0 0) ≡ round B H (x ∷ l) (round B H (x ∷ l) (scan 0 0))
-two-rounds B H x l sp =
-    let e : 2 * H ≡ H + H = omega arith in
-    let z : Scan = round B H (x ∷ l) (scan 0 0) in
-    rw (e, ticks-add (tick B) (delayAt H (x ∷ l)) H H (x .start) (scan 0 0), round-ticks B H x l sp (scan 0 0) (omega arith))
-    (ticks-same (tick B) (delayAt H (x ∷ l)) (delayAt H (x ∷ l)) H (x .start + H) (x .start) z
-    (λ i h. let q : x .start + i + 1 * H ≡ x .start + H + i = omega arith in rw q at (delay-again H x l (x .start + i) 1 (omega arith)))
-    ∙ round-ticks B H x l sp z (segments-bounded B (x .start + H) x l sp 0 (scan 0 0) (omega arith, omega arith) .0))
+  two-rounds : ticks (tick B) (delayAt H l) (firstStart l) (2 * H) (scan 0 0) ≡ round B H l (round B H l (scan 0 0))
+  two-rounds =
+      let e : 2 * H ≡ H + H = omega arith in
+      let z : Scan = round B H l (scan 0 0) in
+      rw (e, ticks-add (tick B) (delayAt H l) H H (firstStart l) (scan 0 0), round-ticks (scan 0 0) (omega arith))
+      (ticks-same (tick B) (delayAt H l) (delayAt H l) H (firstStart l + H) (firstStart l) z
+      (λ i h. let q : firstStart l + i + 1 * H ≡ firstStart l + H + i = omega arith in rw q at (delay-again H l f (firstStart l + i) 1 (omega arith)))
+      ∙ round-ticks z (round-bounded B H l f 0 (scan 0 0) (omega arith, omega arith) .0))
 
--- endless where the first round's run has all H ticks, else the longest of two rounds
-pub exceedance-anchors : (B H : ℕ) (l : List Anchor) → Formed H l
-    → exceedance B H l ≡ cond (leb H (round B H l (scan 0 0) .run)) Endless (Run (round B H l (round B H l (scan 0 0)) .best))
-unfolding exceedance longestRun
-exceedance-anchors B H l f = rw (f .whole) (go (f .head) (f .tail) (f .spacing))
-  where
-    go : (x : Anchor) (l : List Anchor) → Spaced (x .start + H) (x ∷ l)
-        → cond (everyAbove B (delayAt H (x ∷ l)) (x .start) H) Endless (Run (ticks (tick B) (delayAt H (x ∷ l)) (x .start) (2 * H) (scan 0 0) .best))
-        ≡ cond (leb H (round B H (x ∷ l) (scan 0 0) .run)) Endless (Run (round B H (x ∷ l) (round B H (x ∷ l) (scan 0 0)) .best))
-    go x l sp = rw (every-scan B (delayAt H (x ∷ l)) (x .start) H, round-ticks B H x l sp (scan 0 0) (omega arith), two-rounds B H x l sp)
+  -- endless where the first round's run has all H ticks, else the longest of two rounds
+  pub exceedance-anchors : exceedance B H l ≡ cond (leb H (round B H l (scan 0 0) .run)) Endless (Run (round B H l (round B H l (scan 0 0)) .best))
+  unfolding exceedance longestRun
+  exceedance-anchors = rw (every-scan B (delayAt H l) (firstStart l) H, round-ticks (scan 0 0) (omega arith), two-rounds, longestRun)

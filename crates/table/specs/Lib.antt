@@ -14,5 +14,6 @@ pub mod Exceeding
 pub mod Places
 pub mod BothWays
 pub mod Delays
+pub mod EveryTable
 pub mod Words
 pub mod Survey

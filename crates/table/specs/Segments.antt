@@ -6,7 +6,7 @@ use Prim.Native.Nat.{ℕ, _+_, _-_, _*_, _≤_, _<_}
 use native.Mathlib.Nat.{mod-eq-of-lt, add-mul-mod-self-right}
 use native.Mathlib.Omega.{arith}
 use borrow.Author.Tests.{le-leb, lt-leb}
-use Rattle.table.specs.Anchors.{Anchor, next, distance}
+use Rattle.table.specs.Anchors.{Anchor, firstStart, next, distance}
 use Rattle.table.specs.WellFormed.{latencyLimit}
 use Rattle.table.specs.Reading.{lastAt, gives, delayAt}
 use Rattle.table.specs.Ticks.{ticks}
@@ -55,9 +55,12 @@ unfolding delayAt
 delay-first H x l i h = let e : (x .start + i - x .start) ≡ i = omega arith in rw (e, mod-eq-of-lt h)
 
 -- the delay repeats with period H
-pub delay-again : (H : ℕ) (x : Anchor) (l : List Anchor) (t k : ℕ) → x .start ≤ t → delayAt H (x ∷ l) (t + k * H) ≡ delayAt H (x ∷ l) t
+pub delay-again : (H : ℕ) (l : List Anchor) → Formed H l → (t k : ℕ) → firstStart l ≤ t → delayAt H l (t + k * H) ≡ delayAt H l t
 unfolding delayAt
-delay-again H x l t k h = let e : t + k * H - x .start ≡ t - x .start + k * H = omega arith in rw (e, add-mul-mod-self-right)
+delay-again H l f = rw (f .whole) (go (f .head) (f .tail))
+  where
+    go : (x : Anchor) (l : List Anchor) (t k : ℕ) → x .start ≤ t → delayAt H (x ∷ l) (t + k * H) ≡ delayAt H (x ∷ l) t
+    go x l t k h = let e : t + k * H - x .start ≡ t - x .start + k * H = omega arith in rw (e, add-mul-mod-self-right)
 
 -- the state after the anchors of l: seg takes the distance to the next start and the latency
 unfoldable pub segments : {S : Type 0} → (S → ℕ → ℕ → S) → ℕ → List Anchor → S → S
@@ -96,9 +99,11 @@ module _ {S : Type 0} (step : S → ℕ → S) (seg : S → ℕ → ℕ → S) (
             rw (e, later (y .start + j) x y l (omega arith))
 
     -- the H ticks from the first start on
-    pub table-ticks : (H : ℕ) (x : Anchor) (l : List Anchor) → Spaced (x .start + H) (x ∷ l) → (z : S) → I z
-        → ticks step (delayAt H (x ∷ l)) (x .start) H z ≡ segments seg (x .start + H) (x ∷ l) z
-    table-ticks H x l sp z i =
-        let e : x .start + H - x .start ≡ H = omega arith in
-        ticks-same step (delayAt H (x ∷ l)) (delayIn x l) H (x .start) (x .start) z (λ j h. delay-first H x l j h)
-        ∙ rw e at (segments-ticks (x .start + H) x l sp z i)
+    pub table-ticks : (H : ℕ) (l : List Anchor) → Formed H l → (z : S) → I z → ticks step (delayAt H l) (firstStart l) H z ≡ segments seg (firstStart l + H) l z
+    table-ticks H l f z i = rw (f .whole) (go (f .head) (f .tail) (f .spacing))
+      where
+        go : (x : Anchor) (l : List Anchor) → Spaced (x .start + H) (x ∷ l) → ticks step (delayAt H (x ∷ l)) (x .start) H z ≡ segments seg (x .start + H) (x ∷ l) z
+        go x l sp =
+            let e : x .start + H - x .start ≡ H = omega arith in
+            ticks-same step (delayAt H (x ∷ l)) (delayIn x l) H (x .start) (x .start) z (λ j h. delay-first H x l j h)
+            ∙ rw e at (segments-ticks (x .start + H) x l sp z i)

@@ -1,14 +1,13 @@
 // Tables of anchors as two lists of numbers: well-formed, reading at a tick, and the figures of a table.
 use refusal::Refusal;
 ghost use mathlib.Core.Path.{_≡_};
-ghost use Prim.Native.Nat.{_+_, _-_, _*_, _≤_, _<_, min, max};
+ghost use Prim.Native.Nat.{_-_, _*_, _≤_, _<_, min, max};
 ghost use lib.ListN.{length, getD};
 ghost use Rattle.table.specs.Anchors.{anchors};
 ghost use Rattle.table.specs.WellFormed.{hyperLimit, latencyLimit, fitting, measured, spaced, wellFormed, nextStart, WellFormed};
 ghost use Rattle.table.specs.Reading.{reading, wordOf};
-ghost use Rattle.table.specs.Figures.{greatest, low, delaySum, greatestOf, lowOf, meanOf, throughputOf, exceedanceOf};
+ghost use Rattle.table.specs.Figures.{greatestOf, lowOf, meanOf, throughputOf, exceedanceOf};
 ghost use Rattle.table.specs.Delays.{LastStart};
-ghost use Rattle.table.specs.DelaySum.{area};
 ghost use Rattle.table.specs.Exceeding.{stretch, round};
 ghost use Rattle.table.specs.Gathering.{withAnchor, Gathers};
 
@@ -19,6 +18,13 @@ const LATENCY_LIMIT: u64 = 60000000;
 const FIRST_START_LIMIT: u64 = 1000000000;
 
 const UPPER_TICK: u64 = 1000000000000;
+
+// The refusals' numbers.
+const TOO_EARLY: u64 = 12;
+
+const TOO_LATE: u64 = 13;
+
+const NOT_WELL_FORMED: u64 = 14;
 
 // The delay at a tick.
 pub enum Reading {
@@ -145,20 +151,20 @@ pub fn read_at(starts: &[u64], latencies: &[u64], g: usize, h: u64, t: u64) -> R
 {
     if !is_well_formed(starts, latencies, g, h) {
         return Reading::Refused(Refusal {
-            number: 14,
+            number: NOT_WELL_FORMED,
             place: 0,
         });
     }
     let first = starts[0];
     if t < first {
         return Reading::Refused(Refusal {
-            number: 12,
+            number: TOO_EARLY,
             place: 0,
         });
     }
     if UPPER_TICK < t {
         return Reading::Refused(Refusal {
-            number: 13,
+            number: TOO_LATE,
             place: 0,
         });
     }
@@ -247,7 +253,7 @@ pub fn greatest_of(starts: &[u64], latencies: &[u64], g: usize, h: u64) -> Great
 {
     if !is_well_formed(starts, latencies, g, h) {
         return Greatest::Refused(Refusal {
-            number: 14,
+            number: NOT_WELL_FORMED,
             place: 0,
         });
     }
@@ -261,7 +267,7 @@ pub fn low_of(starts: &[u64], latencies: &[u64], g: usize, h: u64) -> Low
 {
     if !is_well_formed(starts, latencies, g, h) {
         return Low::Refused(Refusal {
-            number: 14,
+            number: NOT_WELL_FORMED,
             place: 0,
         });
     }
@@ -275,7 +281,7 @@ pub fn mean_of(starts: &[u64], latencies: &[u64], g: usize, h: u64) -> Mean
 {
     if !is_well_formed(starts, latencies, g, h) {
         return Mean::Refused(Refusal {
-            number: 14,
+            number: NOT_WELL_FORMED,
             place: 0,
         });
     }
@@ -292,7 +298,7 @@ pub fn throughput_of(starts: &[u64], latencies: &[u64], g: usize, h: u64) -> Thr
 {
     if !is_well_formed(starts, latencies, g, h) {
         return Throughput::Refused(Refusal {
-            number: 14,
+            number: NOT_WELL_FORMED,
             place: 0,
         });
     }
@@ -348,7 +354,7 @@ pub fn exceedance_of(starts: &[u64], latencies: &[u64], g: usize, h: u64, b: u64
 {
     if !is_well_formed(starts, latencies, g, h) {
         return Exceedance::Refused(Refusal {
-            number: 14,
+            number: NOT_WELL_FORMED,
             place: 0,
         });
     }
