@@ -9,7 +9,7 @@ import subprocess
 
 TOP = os.path.dirname(os.path.dirname(os.path.abspath(__file__)))
 SHARED = os.path.join(TOP, "target", "tests", "libmeshorchard.so")
-CRATES = ["capi"]
+CRATES = ["capi_timing"]
 U64 = ctypes.c_uint64
 SIZE = ctypes.c_size_t
 LARGEST = 2**64 - 1

@@ -1,5 +1,5 @@
 // Warm-up, delay and age of a chain.
-// Entry points are `warm_up`, `delay` and `age`: they take any values. The others are for the crates above, on chains that `chain::check` accepted.
+// Its calls `warm_up`, `delay` and `age` take any values.
 use chain::Chain;
 use chain::Verdict;
 use refusal::Refusal;
@@ -31,7 +31,7 @@ pub enum Span {
 // ---- warm-up
 
 // Wn: no search is needed, since job 0 of the first place goes forward to it.
-pub fn warm_last(c: Chain) -> Job
+fn warm_last(c: Chain) -> Job
     requires { ⌜ Checked c ⌝ }
     ensures { λ r. ⌜ r .0 ≡ warmLast (tasksOf c) ⌝ }
 {
@@ -58,7 +58,7 @@ fn warm_jobs(c: Chain) -> [Job; 12]
 }
 
 // The warm-up tick x0: the read of W1.
-pub fn warm_tick(c: Chain) -> Tick
+fn warm_tick(c: Chain) -> Tick
     requires { ⌜ Checked c ⌝ }
     ensures { λ r. ⌜ r .0 ≡ warmTick (tasksOf c) ⌝ }
 {
@@ -146,7 +146,7 @@ pub fn delay(c: Chain, t: Tick) -> Span
 // ---- age
 
 // The first tick that has an age: the write of Wn.
-pub fn first_aged(c: Chain) -> Tick
+fn first_aged(c: Chain) -> Tick
     requires { ⌜ Checked c ⌝ }
     ensures { λ r. ⌜ r .0 ≡ firstAged (tasksOf c) ⌝ }
 {
