@@ -74,6 +74,13 @@ module _ (b : Task) (pos : 1 ≤ b .period) where
   pub earliest-le : (w k : ℕ) → (earliestFrom b w ≤ k) ↔ (w ≤ readOf b k)
   earliest-le w k = (λ l. omega (arith, earliest-reads w, read-mono b (earliestFrom b w) k l), λ l. earliest-least w k l)
 
+  -- a job is before the earliest strictly after t exactly when it reads at or before t
+  pub after-less : (t j : ℕ) → (j < earliestAfter b t) ↔ (readOf b j ≤ t)
+  after-less t j = (
+    λ l. elim (decLe (readOf b j) t) [ yes h ↦ h | no h ↦ let u : earliestFrom b (t + 1) ≤ j = earliest-least (t + 1) j (omega arith) in omega arith ],
+    λ l. elim (decLe (earliestFrom b (t + 1)) j) [ yes h ↦ let u : t + 1 ≤ readOf b j = earliest-le (t + 1) j .0 h in omega arith | no h ↦ omega arith ],
+  )
+
   -- it reads within one period of w, or is job 0
   pub earliest-soon : (w : ℕ) → readOf b (earliestFrom b w) ≤ w + b .phase + (b .period - 1)
   unfolding earliestFrom
@@ -144,6 +151,12 @@ module _ (a b : Task) where
   -- The link law: forward from j comes to k or earlier exactly when backward from k there is a job, j or later.
   pub link : 1 ≤ a .period → 1 ≤ b .period → (j k : ℕ) → (forwardLink a b j ≤ k) ↔ AtLeast (backwardLink a b k) j
   link p q j k = (λ h. link-backward p j k .0 (link-forward q j k .0 h), λ h. link-forward q j k .1 (link-backward p j k .1 h))
+
+  -- A later job goes forward to the same job or a later one.
+  pub forward-link-mono : 1 ≤ b .period → (i j : ℕ) → i ≤ j → forwardLink a b i ≤ forwardLink a b j
+  forward-link-mono pos i j h =
+      let u : Linked a j b (forwardLink a b j) = link-forward pos j (forwardLink a b j) .0 (omega arith) in
+      link-forward pos i (forwardLink a b j) .1 (omega (arith, mul-le-mul-right (a .period) h))
 
   -- A link goes forward in time,
   pub forward-later : 1 ≤ b .period → (j : ℕ) → writeOf a j ≤ readOf b (forwardLink a b j)

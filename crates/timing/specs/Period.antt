@@ -106,3 +106,9 @@ module _ (l : List Task) (ok : Sound l) where
       ≡ writeOf (at l (lastPlace l)) (walk l (earliestAfter (at l 0) t) + hyperOf l / at l (lastPlace l) .period)
       = ap (writeOf (at l (lastPlace l))) k in
       omega (arith, w, hyper-times l (lastPlace l) (omega (arith, ok .some)))
+
+  pub delay-periods : (k t : ℕ) → warmTick l ≤ t → delayAt l (t + k * hyperOf l) ≡ delayAt l t
+  delay-periods zero t h = let e : t + 0 * hyperOf l ≡ t = omega arith in rw e
+  delay-periods (suc k) t h =
+      let e : t + suc k * hyperOf l ≡ t + k * hyperOf l + hyperOf l = omega arith in
+      rw e (delay-period (t + k * hyperOf l) (omega arith) ∙ delay-periods k t h)

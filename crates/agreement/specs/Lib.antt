@@ -1,0 +1,4 @@
+pub mod Jobs
+pub mod ReadsAsWalk
+pub mod WellSpaced
+pub mod GreatestAge

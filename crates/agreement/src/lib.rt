@@ -1,0 +1,4 @@
+// Table, walk and age agree.
+pub struct Tried {
+    pub agrees: bool,
+}

@@ -1,0 +1,5 @@
+pub mod Lists
+pub mod Partitions
+pub mod Selections
+pub mod CanonicalAnchors
+pub mod CutFree
