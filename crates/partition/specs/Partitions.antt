@@ -1,5 +1,6 @@
 -- Document 01, "Delay, age, partitions": the partitions of a chain that is cut at a place, and its anchors. The place p is counted from 0 here.
 use Prim.Native.Nat.{ℕ, _+_, _-_, _/_}
+use mathlib.Core.Path.{_≡_}
 use mathlib.Core.Bool.{Bool, not}
 use mathlib.Core.List.{List, map}
 use lib.Dec.{eqb}
@@ -8,6 +9,7 @@ use Rattle.task.specs.Jobs.{readOf, writeOf}
 use Rattle.chain.specs.Chains.{at, lastPlace, forwardBy, backwardBy, jobOf}
 use Rattle.timing.specs.WarmUp.{warmAt}
 use Rattle.table.specs.Anchors.{Anchor, anchor}
+use Rattle.partition.specs.declared.Partition.{Partition}
 use Rattle.partition.specs.Lists.{rangeFrom, keep, dropRepeats}
 
 -- The partition of job m at place p: backward from m to the start, a read. From Wp on there is one: `start-there` in timing's WarmLaws.
@@ -17,6 +19,12 @@ startOf l p m = readOf (at l 0) (jobOf (backwardBy l 0 p m))
 -- Forward from m + 1 to the end, a write.
 unfoldable pub endOf : List Task → ℕ → ℕ → ℕ
 endOf l p m = writeOf (at l (lastPlace l)) (forwardBy l p (lastPlace l - p) (m + 1))
+
+-- The partition of job m, as the code holds it.
+pub record IsPartition (l : List Task) (p m : ℕ) (x : Partition) : Type 0 where
+  pub of : x .job .0 ≡ m
+  pub starts : x .start .0 ≡ startOf l p m
+  pub ends : x .end .0 ≡ endOf l p m
 
 -- A partition is kept when the next m has another start.
 unfoldable pub keeps : List Task → ℕ → ℕ → Bool

@@ -56,8 +56,8 @@ module _ (l : List Task) (v : Verdict) where
       made : ℕ → WarmUp
       made x = record { refusal = none; jobs = warmEntries l; tick = record { 0 = x }; hyperperiod = h }
 
--- the array's first entry is W1
-pub first-entry : (l : List Task) → Sound l → (jobs : List Job) → jobs ≡ warmEntries l → getD jobs 0 noJob .0 ≡ warmAt l 0
-first-entry l ok jobs e =
-    let z : 0 + 0 ≡ 0 = omega arith in
-    ap (λ (x : List Job). getD x 0 noJob .0) e ∙ ap (λ (x : Job). x .0) (entries-at (warmEntry l) 0 12 0 (omega arith)) ∙ ap (λ (x : ℕ). warmEntry l x .0) z ∙ rw (lt-ltb 0 (length l) (ok .some))
+-- the array's entry at a place is the warm-up job there
+pub entry-job : (l : List Task) → Sound l → (jobs : List Job) → jobs ≡ warmEntries l → (p : ℕ) → p < length l → getD jobs p noJob .0 ≡ warmAt l p
+entry-job l ok jobs e p h =
+    let z : 0 + p ≡ p = omega arith in
+    ap (λ (x : List Job). getD x p noJob .0) e ∙ ap (λ (x : Job). x .0) (entries-at (warmEntry l) 0 12 p (omega (arith, ok .few))) ∙ ap (λ (x : ℕ). warmEntry l x .0) z ∙ rw (lt-ltb p (length l) h)

@@ -1,5 +1,5 @@
 // Warm-up, delay and age of a chain.
-// Its calls `warm_up`, `delay` and `age` take any values.
+// Its calls `warm_up`, `delay` and `age` take any values; `warm_jobs` is for the crates above, on chains that `chain::check` accepted.
 use chain::Chain;
 use chain::Verdict;
 use refusal::Refusal;
@@ -39,7 +39,7 @@ fn warm_last(c: Chain) -> Job
 }
 
 // W1 to Wn, and zeros past them: from Wn backward, a place at a time.
-fn warm_jobs(c: Chain) -> [Job; 12]
+pub fn warm_jobs(c: Chain) -> [Job; 12]
     requires { ⌜ Checked c ⌝ }
     ensures { λ r. ⌜ r ≡ warmEntries (tasksOf c) ⌝ }
 {

@@ -7,7 +7,7 @@ use Rattle.timing.specs.WarmUp.{warmAt}
 use Rattle.chain.proofs.CheckLaws.{accepted}
 use Rattle.timing.proofs.Whole.{warm-tick-is, warm-tick-fits}
 use Rattle.timing.proofs.Entries.{noJob}
-use Rattle.timing.proofs.Exits.{warm-refused, warm-known, first-entry}
+use Rattle.timing.proofs.Exits.{warm-refused, warm-known, entry-job}
 use borrow.Author.Needs.{needs}
 use Rattle.timing.proofs.warm_up.Statement.{statement}
 use Rattle.timing.proofs.warm_up.Tie as tie
@@ -19,7 +19,7 @@ fine : (c : tie.After-known-told2) → Checked (c .before .before .before .befor
 fine c = accepted _ _ (simp length-map at (c .before .before .before .before .good .0 .1 .1 .0 .1 .0 .1)) (said c) .passes
 
 first : (c : tie.After-warm-jobs) → getD (c .warm-jobs .result) 0 noJob .0 ≡ warmAt (tasksOf (c .before .before .before .before .before .args .t1)) 0
-first c = first-entry _ (fine (c .before) .sound) _ (c .warm-jobs .ensures)
+first c = entry-job _ (fine (c .before) .sound) _ (c .warm-jobs .ensures) 0 (fine (c .before) .sound .some)
 
 check-requires : tie.Need-check-requires
 check-requires c κs = tt

@@ -1,0 +1,110 @@
+-- What holds at each return of `judge` and `make_table`, and what an accepted making has.
+use Prim.Native.Nat.{ℕ, _+_, _-_, _*_, _/_, _≤_, _<_}
+use native.Mathlib.Omega.{arith}
+use native.Mathlib.Nat.{div-mul-le-self, div-le-self}
+use mathlib.Core.Path.{_≡_, refl, sym, ap, _∙_}
+use mathlib.Core.Bool.{Bool, true, false, cond, _&&_}
+use mathlib.Core.List.{List, []}
+use lib.Dec.{leb, eqb}
+use lib.ListN.{length}
+use borrow.Author.Tests.{le-leb, lt-leb, leb-true, eq-eqb, ne-eqb}
+use Rattle.refusal.specs.declared.Refusal.{Refusal}
+use Rattle.refusal.specs.Refusals.{refusal}
+use Rattle.task.specs.declared.Task.{Task}
+use Rattle.task.specs.declared.Tick.{Tick}
+use Rattle.task.specs.Jobs.{readOf, writeOf}
+use Rattle.chain.specs.declared.Chain.{Chain}
+use Rattle.chain.specs.declared.Verdict.{Verdict}
+use Rattle.chain.specs.declared.Verdict.the-variants as verdict
+use Rattle.chain.specs.Chains.{tasksOf, at}
+use Rattle.chain.specs.Checks.{verdictOf, Sound, Checked}
+use Rattle.timing.specs.WarmUp.{warmAt, warmTick}
+use Rattle.timing.specs.WarmRanges.{warm-range}
+use Rattle.partition.specs.Partitions.{anchorsOf}
+use Rattle.maker.specs.declared.Count.{Count}
+use Rattle.maker.specs.declared.Figures.{Figures}
+use Rattle.maker.specs.declared.Made.{Made}
+use Rattle.maker.specs.declared.Made.the-variants.{Whole, Short, Refused}
+use Rattle.maker.specs.Turn.{Filled}
+use Rattle.maker.specs.Making.{afterChecks, judged, figuresOf, madeAfter, writtenAfter, startsOf, latenciesOf, overlay, Makes}
+use Rattle.maker.proofs.Lists.{sets-overlay}
+
+module _ (h places p a b : ℕ) where
+  pub judge-low : p < 1 → verdict.Refused (refusal 9 0) ≡ afterChecks (verdict.Accepted h) places p a b
+  judge-low l = rw (lt-leb 1 p l)
+
+  pub judge-high : 1 ≤ p → places < p → verdict.Refused (refusal 9 0) ≡ afterChecks (verdict.Accepted h) places p a b
+  judge-high l k = rw (le-leb 1 p l, lt-leb p places k)
+
+  pub judge-lists : 1 ≤ p → p ≤ places → (a ≡ b → ⊥) → verdict.Refused (refusal 10 0) ≡ afterChecks (verdict.Accepted h) places p a b
+  judge-lists l k n = rw (le-leb 1 p l, le-leb p places k, ne-eqb a b n)
+
+  pub judge-well : 1 ≤ p → p ≤ places → a ≡ b → verdict.Accepted h ≡ afterChecks (verdict.Accepted h) places p a b
+  judge-well l k n = rw (le-leb 1 p l, le-leb p places k, eq-eqb a b n)
+
+-- the checks of making, the tests made
+abbrev after : Verdict → Bool → Bool → Bool → Verdict
+after (verdict.Refused r) x y z = verdict.Refused r
+after (verdict.Accepted h) x y z = cond (x && y) (cond z (verdict.Accepted h) (verdict.Refused (refusal 10 0))) (verdict.Refused (refusal 9 0))
+
+after-same : (v : Verdict) (places p a b : ℕ) → afterChecks v places p a b ≡ after v (leb 1 p) (leb p places) (eqb a b)
+after-same (verdict.Refused r) places p a b = refl
+after-same (verdict.Accepted h) places p a b = refl
+
+-- what is known of a making that is accepted
+pub record Well (c : Chain) (p h : ℕ) : Type 0 where
+  pub whole : verdictOf c ≡ verdict.Accepted h
+  pub low : 1 ≤ p
+  pub high : p ≤ c .places
+
+pub well : (c : Chain) (p a b h : ℕ) → judged c p a b ≡ verdict.Accepted h → Well c p h
+unfolding judged
+well c p a b h r = go (verdictOf c) (leb 1 p) (leb p (c .places)) (eqb a b) refl refl refl (sym (after-same (verdictOf c) (c .places) p a b) ∙ r)
+  where
+    go : (v : Verdict) (x y z : Bool) → verdictOf c ≡ v → leb 1 p ≡ x → leb p (c .places) ≡ y
+        → after v x y z ≡ verdict.Accepted h → Well c p h
+    go (verdict.Accepted k) true true true e l t q = let u : k ≡ h = cc in record { whole = e ∙ ap verdict.Accepted u; low = leb-true _ _ l; high = leb-true _ _ t }
+    go (verdict.Accepted k) true true false e l t q = absurd (let u : _≡_ {A = ℕ} 0 1 = cc in omega arith)
+    go (verdict.Accepted k) true false z e l t q = absurd (let u : _≡_ {A = ℕ} 0 1 = cc in omega arith)
+    go (verdict.Accepted k) false y z e l t q = absurd (let u : _≡_ {A = ℕ} 0 1 = cc in omega arith)
+    go (verdict.Refused f) x y z e l t q = absurd (let u : _≡_ {A = ℕ} 0 1 = cc in omega arith)
+
+-- the whole range of partitions stays small
+pub range-fits : (l : List Task) → Sound l → (p h : ℕ) → p < length l → h ≤ 60000000 → writeOf (at l p) (warmAt l p + h / at l p .period + 1) ≤ 1000000000000
+range-fits l ok p h g s =
+    let w = ok .each p g in
+    omega (arith, warm-range l ok p g, div-mul-le-self h (at l p .period), w .period-max, w .duration-max)
+
+module _ (c : Chain) (p : ℕ) (s l : List ℕ) where
+  -- the contract from the verdict
+  finish : (v : Verdict) (r : Made) (s′ l′ : List ℕ) → judged c p (length s) (length l) ≡ v → r ≡ madeAfter c p (length s) v
+      → s′ ≡ overlay (startsOf (writtenAfter c p v)) s → l′ ≡ overlay (latenciesOf (writtenAfter c p v)) l → Makes c p s l s′ l′ r
+  finish v r s′ l′ e a f g = record { answer = rw e a; leaves-starts = rw e f; leaves-latencies = rw e g }
+
+  pub made-refused : (r : Refusal) → judged c p (length s) (length l) ≡ verdict.Refused r → Makes c p s l s l (Refused r)
+  unfolding madeAfter writtenAfter
+  made-refused r e = finish (verdict.Refused r) (Refused r) s l e refl (sets-overlay [] s) (sets-overlay [] l)
+
+  module _ (h m n : ℕ) (x : Tick) (s′ l′ : List ℕ) (f : Count) (e : judged c p (length s) (length l) ≡ verdict.Accepted h) (w : m ≡ warmAt (tasksOf c) (p - 1)) (t : x .0 ≡ warmTick (tasksOf c))
+      (u : n ≡ h / at (tasksOf c) (p - 1) .period) (all : Filled (tasksOf c) (p - 1) m n s l s′ l′ f) where
+    filled : Filled (tasksOf c) (p - 1) (warmAt (tasksOf c) (p - 1)) (h / at (tasksOf c) (p - 1) .period) s l s′ l′ f
+    filled = rw (w, u) at all
+
+    made : ℕ → ℕ → ℕ → Figures
+    made g y k = record { anchors = g; tick = record { 0 = y }; hyperperiod = h; walked = k }
+
+    figures : _≡_ {A = Figures} (record { anchors = f .anchors; tick = x; hyperperiod = h; walked = f .walked }) (figuresOf c p h)
+    unfolding made
+    figures =
+        ap (λ (g : ℕ). made g (x .0) (f .walked)) (filled .anchors) ∙ ap (λ (y : ℕ). made (length (anchorsOf (tasksOf c) (p - 1) h)) y (f .walked)) t
+        ∙ ap (λ (k : ℕ). made (length (anchorsOf (tasksOf c) (p - 1) h)) (warmTick (tasksOf c)) k) (filled .walked)
+
+    pub made-whole : f .anchors ≤ length s → Makes c p s l s′ l′ (Whole (record { anchors = f .anchors; tick = x; hyperperiod = h; walked = f .walked }))
+    unfolding madeAfter writtenAfter
+    made-whole g =
+        finish (verdict.Accepted h) _ s′ l′ e (rw (le-leb (length (anchorsOf (tasksOf c) (p - 1) h)) (length s) (omega (arith, filled .anchors))) (ap Whole figures)) (filled .first) (filled .second)
+
+    pub made-short : length s < f .anchors → Makes c p s l s′ l′ (Short (record { anchors = f .anchors; tick = x; hyperperiod = h; walked = f .walked }))
+    unfolding madeAfter writtenAfter
+    made-short g =
+        finish (verdict.Accepted h) _ s′ l′ e (rw (lt-leb (length (anchorsOf (tasksOf c) (p - 1) h)) (length s) (omega (arith, filled .anchors))) (ap Short figures)) (filled .first) (filled .second)

@@ -1,0 +1,91 @@
+-- A partition of a checked chain, with the places as the code counts them; no number on its ways is large.
+use Prim.Native.Nat.{ℕ, _+_, _-_, _*_, _≤_, _<_}
+use native.Mathlib.Omega.{arith}
+use mathlib.Core.Path.{_≡_, refl, sym, ap, _∙_}
+use mathlib.Core.List.{List}
+use lib.ListN.{length}
+use Rattle.task.specs.declared.Task.{Task}
+use Rattle.task.specs.declared.Latest.{Latest}
+use Rattle.task.specs.declared.Latest.the-variants.{Of, Nothing}
+use Rattle.task.specs.Jobs.{readOf, writeOf, Within}
+use Rattle.task.specs.LinkLaws.{job-small, read-mono}
+use Rattle.chain.specs.declared.Chain.{Chain}
+use Rattle.chain.specs.Chains.{tasksOf, at, lastPlace, forwardBy, backwardBy, jobOf}
+use Rattle.chain.specs.Checks.{Sound, Checked}
+use Rattle.chain.specs.Ranges.{forward-fits, forward-late, backward-fits}
+use Rattle.timing.specs.WarmUp.{warmAt}
+use Rattle.timing.specs.WarmLaws.{start-there}
+use Rattle.timing.proofs.Whole.{first-is, last-is}
+use Rattle.partition.specs.declared.Partition.{Partition}
+use Rattle.partition.specs.Partitions.{startOf, endOf, IsPartition}
+
+module _ (l : List Task) (ok : Sound l) (p : ℕ) (h : p < length l) where
+  here : Within (at l p)
+  here = ok .each p h
+
+  -- whether there is a job back there or not, its read is not far
+  pub start-near : (m : ℕ) → startOf l p m ≤ readOf (at l p) m + 1000000
+  unfolding startOf
+  start-near m = go (backwardBy l 0 p m) refl
+    where
+      go : (q : Latest) → backwardBy l 0 p m ≡ q → readOf (at l 0) (jobOf q) ≤ readOf (at l p) m + 1000000
+      go (Of j) e =
+          let z : p - 0 ≡ p = omega arith in
+          let f = backward-fits l ok 0 p (omega arith) h m j (rw z e) in
+          omega arith
+      go Nothing e = omega (arith, ok .each 0 (ok .some) .phase-max)
+
+  start-early : (m : ℕ) → warmAt l p ≤ m → startOf l p m ≤ readOf (at l p) m
+  unfolding startOf
+  start-early m g =
+      let f = start-there l ok p h m g in
+      let z : p - 0 ≡ p = omega arith in
+      rw (f .is) (backward-fits l ok 0 p (omega arith) h m (f .job) (rw z (f .is)))
+
+  end-late : (m : ℕ) → writeOf (at l p) (m + 1) ≤ endOf l p m
+  unfolding endOf
+  end-late m = forward-late l ok p (lastPlace l) (omega arith) (omega arith) (m + 1)
+
+  pub end-near : (m : ℕ) → endOf l p m ≤ writeOf (at l p) (m + 1) + 55000000
+  unfolding endOf
+  end-near m = forward-fits l ok p (lastPlace l) (omega arith) (omega arith) (m + 1)
+
+  -- from the warm-up job on a partition starts before it ends
+  pub start-end : (m : ℕ) → warmAt l p ≤ m → startOf l p m ≤ endOf l p m
+  start-end m g = omega (arith, start-early m g, end-late m, read-mono (at l p) m (m + 1) (omega arith))
+
+  -- no end is 0
+  pub end-pos : (m : ℕ) → endOf l p m ≡ 0 → ⊥
+  end-pos m e = omega (arith, end-late m, here .duration-pos)
+
+  -- a job number is at most its write
+  pub job-fits : (m : ℕ) → m ≤ writeOf (at l p) m
+  job-fits m = omega (arith, job-small (at l p) (here .period-pos) m)
+
+module _ (c : Chain) (k : Checked c) (p m : ℕ) where
+  pub start-is : (j : ℕ) → j ≡ jobOf (backwardBy (tasksOf c) 0 (p - 0) m) → readOf (at (c .tasks) 0) j ≡ startOf (tasksOf c) p m
+  unfolding startOf
+  start-is j e = let z : p - 0 ≡ p = omega arith in rw (first-is c k, e, z)
+
+  pub end-is : (j : ℕ) → j ≡ forwardBy (tasksOf c) p (c .places - 1 - p) (m + 1) → writeOf (at (c .tasks) (c .places - 1)) j ≡ endOf (tasksOf c) p m
+  unfolding endOf
+  end-is j e =
+      ap (λ (a : Task). writeOf a j) (last-is c k)
+      ∙ ap (writeOf (at (tasksOf c) (lastPlace (tasksOf c)))) (e ∙ ap (λ (n : ℕ). forwardBy (tasksOf c) p (n - 1 - p) (m + 1)) (sym (k .counted)))
+
+  module _ (h : p < c .places) (top : writeOf (at (tasksOf c) p) (m + 1) ≤ 1000000000000) where
+    in-places : p < length (tasksOf c)
+    in-places = omega (arith, k .counted)
+
+    pub start-small : (j : ℕ) → j ≡ jobOf (backwardBy (tasksOf c) 0 (p - 0) m) → readOf (at (c .tasks) 0) j ≤ 2000000000000
+    start-small j e = omega (arith, start-is j e, start-near (tasksOf c) (k .sound) p in-places m, read-mono (at (tasksOf c) p) m (m + 1) (omega arith))
+
+    pub end-small : (j : ℕ) → j ≡ forwardBy (tasksOf c) p (c .places - 1 - p) (m + 1) → writeOf (at (c .tasks) (c .places - 1)) j ≤ 2000000000000
+    end-small j e = omega (arith, end-is j e, end-near (tasksOf c) (k .sound) p in-places m)
+
+    pub job-top : m + 1 ≤ 1000000000000
+    job-top = omega (arith, job-fits (tasksOf c) (k .sound) p in-places (m + 1))
+
+-- a partition is that of its own job
+pub own : (l : List Task) (p m : ℕ) (x : Partition) → IsPartition l p m x → IsPartition l p (x .job .0) x
+own l p m x i = record { of = refl; starts = i .starts ∙ ap (startOf l p) (sym (i .of)); ends = i .ends ∙ ap (endOf l p) (sym (i .of)) }
