@@ -113,65 +113,15 @@ module _ (l : List Task) (ok : Sound l) (small : hyperOf l ≤ 60000000) where
 
   -- ---- the greatest age
 
-  -- the tick is the read of a job j, after which the walk ends later
-  j : ℕ
-  j = earliestAfter (at l 0) tick - 1
-
-  j-next : earliestAfter (at l 0) tick ≡ suc j
-  unfolding j warmTick
-  j-next = let u = after-less (at l 0) pos tick (warmAt l 0) .1 (omega (arith, tick-low)) in omega arith
-
-  j-warm : warmAt l 0 ≤ j
-  unfolding warmTick
-  j-warm = let u = after-less (at l 0) pos tick (warmAt l 0) .1 (omega (arith, tick-low)) in omega (arith, j-next)
-
-  j-reads : readOf (at l 0) j ≤ tick
-  j-reads = after-less (at l 0) pos tick j .0 (omega (arith, j-next))
-
-  tick-early : tick < endWalk l (suc j)
-  tick-early =
-      let u : tick < readOf (at l 0) (suc j) = elim (decLt tick (readOf (at l 0) (suc j))) [
-        | yes h ↦ h
-        | no h ↦ let v = after-less (at l 0) pos tick (suc j) .1 (omega arith) in omega (arith, j-next)
-      ] in
-      omega (arith, end-after l ok (suc j))
-
-  tick-delay : delayAt l tick ≡ endWalk l (suc j) - tick
-  unfolding delayAt
-  tick-delay = rw j-next
-
   read-bound : (i : ℕ) → warmAt l 0 ≤ i → endWalk l (suc i) - readOf (at l 0) i ≤ top
   read-bound i h = omega (arith, delay-read l ok i, delay-bound (readOf (at l 0) i) (read-warm l ok i h))
-
-  -- the latency of j is the greatest
-  j-top : endWalk l (suc j) - readOf (at l 0) j ≡ top
-  j-top = omega (arith, read-bound j j-warm, tick-delay, tick-meets, tick-early, j-reads)
-
-  j-new : walk l j < walk l (suc j)
-  j-new = elim (decLt (walk l j) (walk l (suc j))) [
-    | yes h ↦ h
-    | no h ↦ elim (decLt (warmAt l 0) j) [
-      | no g ↦
-          let e : j ≡ warmAt l 0 = omega (arith, j-warm) in
-          let f : walk l j ≡ walk l (warmAt l 0) = ap (walk l) e in
-          let k : walk l (suc j) ≡ walk l (suc (warmAt l 0)) = ap (λ (x : ℕ). walk l (suc x)) e in
-          omega (arith, walk-warm l ok, walk-next l ok)
-      | yes g ↦
-          let s : suc (j - 1) ≡ j = omega arith in
-          let e : walk l j ≡ walk l (suc j) = omega (arith, walk-mono l ok j (suc j) (omega arith)) in
-          let f : endWalk l (suc (j - 1)) ≡ endWalk l (suc j) = ap (endWalk l) s ∙ ap (writeOf (at l (lastPlace l))) e in
-          let b = read-bound (j - 1) (omega arith) in
-          let r = read-less (at l 0) pos (j - 1) j (omega arith) in
-          absurd (omega (arith, j-top, tick-early, j-reads))
-    ]
-  ]
 
   -- where the last place's latest job by z is k, and the way back from k leads to i
   age-of : (z k i : ℕ) → latestBy (at l (lastPlace l)) z ≡ Of (record { 0 = k }) → back l k ≡ Of (record { 0 = i }) → ageAt l z ≡ z - readOf (at l 0) i
   unfolding ageAt onLatest
   age-of z k i e f = rw (e, f)
 
-  age-bound : (z : ℕ) → firstAged l ≤ z → suc (ageAt l z) ≤ top
+  pub age-bound : (z : ℕ) → firstAged l ≤ z → suc (ageAt l z) ≤ top
   age-bound z h =
       let f = found (latestBy (at l (lastPlace l)) z) (warmLast l) (aged l ok z h) in
       let k : ℕ = f .job .0 in
@@ -191,31 +141,90 @@ module _ (l : List Task) (ok : Sound l) (small : hyperOf l ≤ 60000000) where
       let e : endWalk l (suc i) ≡ writeOf (at l (lastPlace l)) (walk l (suc i)) = refl in
       omega (arith, age-of z k i (f .is) (b .is), read-bound i warm, end-after l ok (suc i), read-mono (at l 0) i (suc i) (omega arith), read-mono (at l (lastPlace l)) (suc k) (walk l (suc i)) far)
 
-  -- just before the walk from the job after j ends, the age is one less than the greatest latency
-  peak : ℕ
-  peak = endWalk l (suc j) - 1
+  -- a tick at which the delay is the greatest
+  module _ (u : ℕ) (low : warmTick l ≤ u) (meets : delayAt l u ≡ top) where
+    -- it is the read of a job j, after which the walk ends later
+    j : ℕ
+    j = earliestAfter (at l 0) u - 1
 
-  peak-age : suc (ageAt l peak) ≡ top
-  unfolding peak
-  peak-age =
-      let k : ℕ = walk l (suc j) - 1 in
-      let s : suc k ≡ walk l (suc j) = omega (arith, j-new) in
-      let n : writeOf (at l (lastPlace l)) (suc k) ≡ endWalk l (suc j) = ap (writeOf (at l (lastPlace l))) s in
-      let w = write-less (at l (lastPlace l)) last-pos k (suc k) (omega arith) in
-      let e = exact (latestBy (at l (lastPlace l)) peak) k (latest-is (at l (lastPlace l)) last-pos peak k .0 (omega arith))
-      (λ a. let b = latest-is (at l (lastPlace l)) last-pos peak (suc k) .1 a in omega (arith, tick-early)) in
-      let f = exact (back l k) j (way j k .0 (omega (arith, j-new))) (λ a. let b = way (suc j) k .1 a in omega arith) in
-      omega (arith, age-of peak k j e f, j-top, tick-early, j-reads)
+    after-warm : warmAt l 0 < earliestAfter (at l 0) u
+    unfolding warmTick
+    after-warm = after-less (at l 0) pos u (warmAt l 0) .1 low
 
-  peak-low : firstAged l ≤ peak
-  unfolding peak firstAged
-  peak-low = omega (arith, write-less (at l (lastPlace l)) last-pos (walk l 0) (walk l (suc j)) (walk-after l ok j j-warm), ap (writeOf (at l (lastPlace l))) (warm-walk l ok))
+    j-next : earliestAfter (at l 0) u ≡ suc j
+    unfolding j
+    j-next = omega (arith, after-warm)
+
+    j-warm : warmAt l 0 ≤ j
+    j-warm = omega (arith, after-warm, j-next)
+
+    j-reads : readOf (at l 0) j ≤ u
+    j-reads = after-less (at l 0) pos u j .0 (omega (arith, j-next))
+
+    u-early : u < endWalk l (suc j)
+    u-early =
+        let b : u < readOf (at l 0) (suc j) = elim (decLt u (readOf (at l 0) (suc j))) [
+          | yes h ↦ h
+          | no h ↦ let c = after-less (at l 0) pos u (suc j) .1 (omega arith) in omega (arith, j-next)
+        ] in
+        omega (arith, end-after l ok (suc j))
+
+    u-delay : endWalk l (suc j) - u ≡ top
+    unfolding delayAt
+    u-delay = rw j-next at meets
+
+    u-reads : readOf (at l 0) j ≡ u
+    u-reads = omega (arith, read-bound j j-warm, u-delay, u-early, j-reads)
+
+    j-new : walk l j < walk l (suc j)
+    j-new = elim (decLt (walk l j) (walk l (suc j))) [
+      | yes h ↦ h
+      | no h ↦ elim (decLt (warmAt l 0) j) [
+        | no g ↦
+            let e : j ≡ warmAt l 0 = omega (arith, j-warm) in
+            let f : walk l j ≡ walk l (warmAt l 0) = ap (walk l) e in
+            let k : walk l (suc j) ≡ walk l (suc (warmAt l 0)) = ap (λ (x : ℕ). walk l (suc x)) e in
+            omega (arith, walk-warm l ok, walk-next l ok)
+        | yes g ↦
+            let s : suc (j - 1) ≡ j = omega arith in
+            let e : walk l j ≡ walk l (suc j) = omega (arith, walk-mono l ok j (suc j) (omega arith)) in
+            let f : endWalk l (suc (j - 1)) ≡ endWalk l (suc j) = ap (endWalk l) s ∙ ap (writeOf (at l (lastPlace l))) e in
+            let b = read-bound (j - 1) (omega arith) in
+            let r = read-less (at l 0) pos (j - 1) j (omega arith) in
+            absurd (omega (arith, u-delay, u-early, u-reads))
+      ]
+    ]
+
+    -- the last tick before that walk ends
+    peak-is : u + top - 1 ≡ endWalk l (suc j) - 1
+    peak-is = omega (arith, u-delay, u-early)
+
+    -- There the age is one less than the greatest delay,
+    pub peak-age : suc (ageAt l (u + top - 1)) ≡ top
+    peak-age =
+        let k : ℕ = walk l (suc j) - 1 in
+        let z : ℕ = endWalk l (suc j) - 1 in
+        let s : suc k ≡ walk l (suc j) = omega (arith, j-new) in
+        let n : writeOf (at l (lastPlace l)) (suc k) ≡ endWalk l (suc j) = ap (writeOf (at l (lastPlace l))) s in
+        let w = write-less (at l (lastPlace l)) last-pos k (suc k) (omega arith) in
+        let e = exact (latestBy (at l (lastPlace l)) z) k (latest-is (at l (lastPlace l)) last-pos z k .0 (omega arith))
+        (λ a. let b = latest-is (at l (lastPlace l)) last-pos z (suc k) .1 a in omega (arith, u-early)) in
+        let f = exact (back l k) j (way j k .0 (omega (arith, j-new))) (λ a. let b = way (suc j) k .1 a in omega arith) in
+        rw peak-is (omega (arith, age-of z k j e f, u-delay, u-early, u-reads))
+
+    -- and it is a tick that has an age.
+    pub peak-low : firstAged l ≤ u + top - 1
+    unfolding firstAged
+    peak-low = omega (arith, peak-is, write-less (at l (lastPlace l)) last-pos (walk l 0) (walk l (suc j)) (walk-after l ok j j-warm), ap (writeOf (at l (lastPlace l))) (warm-walk l ok))
+
+  pub top-fits : top ≤ 60000000
+  top-fits = omega (arith, latency-fits l ok (j tick tick-low tick-meets) (j-warm tick tick-low tick-meets), u-delay tick tick-low tick-meets, u-reads tick tick-low tick-meets)
 
   pub greatest-age-is : GreatestWithin (λ z. suc (ageAt l z)) (firstAged l) 1000000000000 top
   greatest-age-is = record {
-    bound = λ z low high. age-bound z low;
-    at = peak;
-    from = peak-low;
-    upto = unfold peak in omega (arith, latency-fits l ok j j-warm, j-reads, tick-high, warm-small);
-    meets = peak-age;
+    bound = λ z from upto. age-bound z from;
+    at = tick + top - 1;
+    from = peak-low tick tick-low tick-meets;
+    upto = omega (arith, top-fits, tick-high, warm-small);
+    meets = peak-age tick tick-low tick-meets;
   }

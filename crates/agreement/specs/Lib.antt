@@ -2,3 +2,5 @@ pub mod Jobs
 pub mod ReadsAsWalk
 pub mod WellSpaced
 pub mod GreatestAge
+pub mod MadeTable
+pub mod Agreement

@@ -7,7 +7,7 @@ use mathlib.Core.Bool.{Bool, true, false, cond, _&&_}
 use mathlib.Core.List.{List, []}
 use lib.Dec.{leb, eqb}
 use lib.ListN.{length}
-use borrow.Author.Tests.{le-leb, lt-leb, leb-true, eq-eqb, ne-eqb}
+use borrow.Author.Tests.{le-leb, lt-leb, leb-true, eq-eqb, eqb-true, ne-eqb}
 use Rattle.refusal.specs.declared.Refusal.{Refusal}
 use Rattle.refusal.specs.Refusals.{refusal}
 use Rattle.task.specs.declared.Task.{Task}
@@ -52,22 +52,23 @@ after-same (verdict.Refused r) places p a b = refl
 after-same (verdict.Accepted h) places p a b = refl
 
 -- what is known of a making that is accepted
-pub record Well (c : Chain) (p h : ℕ) : Type 0 where
+pub record Well (c : Chain) (p a b h : ℕ) : Type 0 where
   pub whole : verdictOf c ≡ verdict.Accepted h
   pub low : 1 ≤ p
   pub high : p ≤ c .places
+  pub equal : a ≡ b
 
-pub well : (c : Chain) (p a b h : ℕ) → judged c p a b ≡ verdict.Accepted h → Well c p h
+pub well : (c : Chain) (p a b h : ℕ) → judged c p a b ≡ verdict.Accepted h → Well c p a b h
 unfolding judged
-well c p a b h r = go (verdictOf c) (leb 1 p) (leb p (c .places)) (eqb a b) refl refl refl (sym (after-same (verdictOf c) (c .places) p a b) ∙ r)
+well c p a b h r = go (verdictOf c) (leb 1 p) (leb p (c .places)) (eqb a b) refl refl refl refl (sym (after-same (verdictOf c) (c .places) p a b) ∙ r)
   where
-    go : (v : Verdict) (x y z : Bool) → verdictOf c ≡ v → leb 1 p ≡ x → leb p (c .places) ≡ y
-        → after v x y z ≡ verdict.Accepted h → Well c p h
-    go (verdict.Accepted k) true true true e l t q = let u : k ≡ h = cc in record { whole = e ∙ ap verdict.Accepted u; low = leb-true _ _ l; high = leb-true _ _ t }
-    go (verdict.Accepted k) true true false e l t q = absurd (let u : _≡_ {A = ℕ} 0 1 = cc in omega arith)
-    go (verdict.Accepted k) true false z e l t q = absurd (let u : _≡_ {A = ℕ} 0 1 = cc in omega arith)
-    go (verdict.Accepted k) false y z e l t q = absurd (let u : _≡_ {A = ℕ} 0 1 = cc in omega arith)
-    go (verdict.Refused f) x y z e l t q = absurd (let u : _≡_ {A = ℕ} 0 1 = cc in omega arith)
+    go : (v : Verdict) (x y z : Bool) → verdictOf c ≡ v → leb 1 p ≡ x → leb p (c .places) ≡ y → eqb a b ≡ z
+        → after v x y z ≡ verdict.Accepted h → Well c p a b h
+    go (verdict.Accepted k) true true true e l t m q = let u : k ≡ h = cc in record { whole = e ∙ ap verdict.Accepted u; low = leb-true _ _ l; high = leb-true _ _ t; equal = eqb-true a b m }
+    go (verdict.Accepted k) true true false e l t m q = absurd (let u : _≡_ {A = ℕ} 0 1 = cc in omega arith)
+    go (verdict.Accepted k) true false z e l t m q = absurd (let u : _≡_ {A = ℕ} 0 1 = cc in omega arith)
+    go (verdict.Accepted k) false y z e l t m q = absurd (let u : _≡_ {A = ℕ} 0 1 = cc in omega arith)
+    go (verdict.Refused f) x y z e l t m q = absurd (let u : _≡_ {A = ℕ} 0 1 = cc in omega arith)
 
 -- the whole range of partitions stays small
 pub range-fits : (l : List Task) → Sound l → (p h : ℕ) → p < length l → h ≤ 60000000 → writeOf (at l p) (warmAt l p + h / at l p .period + 1) ≤ 1000000000000

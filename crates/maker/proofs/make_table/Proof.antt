@@ -30,7 +30,7 @@ said c =
 yes : (c : tie.After-known-told2) → judged (c .before .before .before .before .before .before .before .args .t1) (c .before .before .before .before .before .before .before .args .p) (length (c .before .before .before .before .before .before .before .args .starts .now)) (length (c .before .before .before .before .before .before .before .args .latencies .now)) ≡ verdict.Accepted (c .before .v2 .given .0 .0)
 yes c = sym (said (c .before .before .before)) ∙ c .before .v2 .given .1
 
-fine : (c : tie.After-known-told2) → Well (c .before .before .before .before .before .before .before .args .t1) (c .before .before .before .before .before .before .before .args .p) (c .before .v2 .given .0 .0)
+fine : (c : tie.After-known-told2) → Well (c .before .before .before .before .before .before .before .args .t1) (c .before .before .before .before .before .before .before .args .p) (length (c .before .before .before .before .before .before .before .args .starts .now)) (length (c .before .before .before .before .before .before .before .args .latencies .now)) (c .before .v2 .given .0 .0)
 fine c = well _ _ _ _ _ (yes c)
 
 facts : (c : tie.After-known-told2) → Facts (c .before .before .before .before .before .before .before .args .t1) (c .before .v2 .given .0 .0)
