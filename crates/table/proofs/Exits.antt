@@ -6,18 +6,12 @@ use Prim.Native.Nat.{ℕ, _+_, _-_, _%_, _≤_, _<_}
 use native.Mathlib.Omega.{arith}
 use lib.ListN.{length, getD, drop}
 use borrow.Author.Tests.{le-leb, lt-leb, lt-ltb, le-ltb}
-use Rattle.table.specs.declared.Exceedance.the-variants.{Run, Endless}
-use Rattle.table.specs.declared.Scan.{Scan}
 use Rattle.table.specs.Anchors.{anchors, firstStart}
-use Rattle.table.specs.WellFormed.{hyperLimit, firstStartLimit, _and_, fitting, spaced, measured, wellFormed, WellFormed}
-use Rattle.table.specs.BothWays.{measured-true, well-formed-iff, well-formed-laws}
+use Rattle.table.specs.WellFormed.{firstStartLimit, _and_, fitting, spaced, measured, wellFormed}
+use Rattle.table.specs.BothWays.{measured-true, well}
 use Rattle.refusal.specs.Refusals.{refusal}
 use Rattle.table.specs.declared.Reading.the-variants.{Delay, Refused}
-use Rattle.table.specs.Reading.{delayAt, upperTick, reading}
-use Rattle.table.specs.Ticks.{scan}
-use Rattle.table.specs.Figures.{exceedanceOf}
-use Rattle.table.specs.Segments.{Formed}
-use Rattle.table.specs.Exceeding.{round, round-bounded, exceedance-anchors}
+use Rattle.table.specs.Reading.{upperTick, reading}
 use Rattle.table.specs.Delays.{LastStart, delay-place, delay-least}
 use Rattle.table.specs.Places.{first-at, spaced-at, spaced-end, next-inner, next-last}
 
@@ -61,10 +55,6 @@ module _ (s v : List ℕ) (g H : ℕ) (m : Bool) (e : m ≡ measured (length s) 
       let a = measured-true (length s) (length v) g H (sym e ∙ k) in
       rw (← e, k, first-at s v g (a .2) (omega arith) (a .1), le-leb (getD s 0 0) firstStartLimit h) d
 
--- what the answer of the test says
-pub well : (s v : List ℕ) (g H : ℕ) (w : Bool) → w ≡ wellFormed s v g H → w ≡ true → WellFormed s v g H
-well s v g H w e k = well-formed-iff s v g H .0 (sym e ∙ k)
-
 -- reading at t
 module _ (s v : List ℕ) (g H t : ℕ) (w : Bool) (e : w ≡ wellFormed s v g H) where
   pub read-unformed : w ≡ false → Refused (refusal 14 0) ≡ reading s v g H t
@@ -94,22 +84,3 @@ module _ (s v : List ℕ) (g H t : ℕ) (w : Bool) (e : w ≡ wellFormed s v g H
       unfolding reading
       read-delay u =
           rw (← e, k, first, le-ltb t (getD s 0 0) h, le-ltb upperTick t u, delay-place s v g H (well s v g H w e k) t i l)
-
--- the longest exceedance of B, by one round and by two
-module _ (s v : List ℕ) (g H B : ℕ) (w : Bool) (e : w ≡ wellFormed s v g H) (k : w ≡ true) (once : Scan) (o : once ≡ round B H (anchors s v g) (scan 0 0)) where
-  laws : Formed H (anchors s v g)
-  laws = well-formed-laws s v g H (well s v g H w e k)
-
-  pub once-bounded : (once .run ≤ once .best) × (once .best ≤ hyperLimit)
-  once-bounded =
-      let b = round-bounded B H (anchors s v g) laws 0 (scan 0 0) (omega arith, omega arith) in
-      let h = well s v g H w e k .hyper .1 in
-      rw o (b .0, omega (arith, b .1))
-
-  pub exceed-endless : H ≤ once .run → Endless ≡ exceedanceOf s v g H B
-  unfolding exceedanceOf
-  exceed-endless h = rw (← e, k, exceedance-anchors B H (anchors s v g) laws, ← o, le-leb H (once .run) h)
-
-  pub exceed-run : once .run < H → (twice : Scan) → twice ≡ round B H (anchors s v g) once → Run (twice .best) ≡ exceedanceOf s v g H B
-  unfolding exceedanceOf
-  exceed-run h twice t = rw (← e, k, exceedance-anchors B H (anchors s v g) laws, ← o, lt-leb H (once .run) h, ← t)

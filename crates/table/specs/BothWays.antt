@@ -154,3 +154,7 @@ module _ (s v : List ℕ) (g H : ℕ) where
 
   pub well-spaced : WellFormed s v g H → Spaced (getD s 0 0 + H) (anchors s v g)
   well-spaced w = spaced-true (getD s 0 0 + H) (anchors s v g) (well-parts w .spacing)
+
+-- what the answer of the test says
+pub well : (s v : List ℕ) (g H : ℕ) (w : Bool) → w ≡ wellFormed s v g H → w ≡ true → WellFormed s v g H
+well s v g H w e k = well-formed-iff s v g H .0 (sym e ∙ k)

@@ -5,12 +5,12 @@ use Prim.Native.Nat.{ℕ, zero, suc, _+_, _-_, _%_, _≤_, _<_}
 use native.Mathlib.Nat.{mod-lt}
 use native.Mathlib.Decide.{decLt}
 use native.Mathlib.Omega.{arith}
-use lib.ListN.{length, getD, drop}
+use lib.ListN.{getD, drop}
 use Rattle.table.specs.Anchors.{Anchor, anchor, anchors, firstStart, next}
 use Rattle.table.specs.WellFormed.{latencyLimit, nextStart, WellFormed}
 use Rattle.table.specs.Reading.{lastAt, gives, delayAt}
-use Rattle.table.specs.Figures.{greatest, low}
-use Rattle.table.specs.Segments.{Spaced, Formed, early, later}
+use Rattle.table.specs.Figures.{greatest}
+use Rattle.table.specs.Segments.{Spaced, early, later}
 use Rattle.table.specs.GreatestDelay.{greatest-delay}
 use Rattle.table.specs.LowDelay.{low-delay, low-positive}
 use Rattle.table.specs.Places.{anchors-at, anchors-first, next-at, next-inner, next-last}

@@ -1,22 +1,18 @@
 -- What holds of every well-formed table, said of its two lists, g and H.
 use mathlib.Core.Path.{_≡_, _∙_}
-use mathlib.Core.Logic.{_↔_}
 use mathlib.Core.List.{List}
 use Prim.Native.Nat.{ℕ, _+_, _-_, _*_, _%_, _≤_, _<_}
 use native.Mathlib.Nat.{mod-eq-of-lt}
 use native.Mathlib.Decide.{decLt}
 use native.Mathlib.Omega.{arith}
 use lib.ListN.{getD}
-use Rattle.table.specs.declared.Exceedance.the-variants.{Run, Endless}
 use Rattle.table.specs.Anchors.{anchors, firstStart}
 use Rattle.table.specs.WellFormed.{nextStart, WellFormed}
 use Rattle.table.specs.Reading.{delayAt}
-use Rattle.table.specs.Ticks.{Longest}
-use Rattle.table.specs.Figures.{greatest, low, exceedance}
+use Rattle.table.specs.Figures.{greatest, low}
 use Rattle.table.specs.Segments.{Formed, delay-again}
 use Rattle.table.specs.GreatestDelay.{GreatestFrom, greatest-delay}
 use Rattle.table.specs.LowDelay.{Nears, low-delay}
-use Rattle.table.specs.Exceeding.{exceedance-endless, exceedance-run}
 use Rattle.table.specs.Places.{first-at, next-inner, next-last}
 use Rattle.table.specs.BothWays.{well-formed-laws}
 use Rattle.table.specs.Delays.{LastStart, rises, delay-place}
@@ -25,7 +21,7 @@ module _ (s v : List ℕ) (g H : ℕ) (w : WellFormed s v g H) where
   laws : Formed H (anchors s v g)
   laws = well-formed-laws s v g H w
 
-  first-start : firstStart (anchors s v g) ≡ getD s 0 0
+  pub first-start : firstStart (anchors s v g) ≡ getD s 0 0
   first-start = first-at s v g (w .fits) (omega arith) (w .some)
 
   -- the delay repeats every H ticks
@@ -58,18 +54,3 @@ module _ (s v : List ℕ) (g H : ℕ) (w : WellFormed s v g H) where
   -- low is the limit that the delay nears and never reaches
   pub low-of-all : Nears (delayAt H (anchors s v g)) (getD s 0 0) (low H (anchors s v g))
   low-of-all = rw first-start at (low-delay H (anchors s v g) laws)
-
-  module _ (B : ℕ) where
-    -- endless exactly when every delay is above B, which is when B is at most low
-    pub endless-all : (exceedance B H (anchors s v g) ≡ Endless) ↔ ((t : ℕ) → getD s 0 0 ≤ t → B < delayAt H (anchors s v g) t)
-    endless-all = rw first-start at (exceedance-endless B H (anchors s v g) laws)
-
-    pub endless-low : (exceedance B H (anchors s v g) ≡ Endless) ↔ (B ≤ low H (anchors s v g))
-    endless-low = (
-      λ e. omega (arith, endless-all .0 e (low-of-all .at) (low-of-all .late), low-of-all .nears),
-      λ h. endless-all .1 (λ t k. omega (arith, low-of-all .above t k)),
-    )
-
-    -- else the longest run of all time
-    pub longest-of-all : (n : ℕ) → (exceedance B H (anchors s v g) ≡ Run n) ↔ Longest B (delayAt H (anchors s v g)) (getD s 0 0) n
-    longest-of-all n = rw first-start at (exceedance-run B H (anchors s v g) laws n)

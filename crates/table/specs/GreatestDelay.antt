@@ -2,7 +2,7 @@
 use mathlib.Core.Path.{_≡_, sym, _∙_}
 use mathlib.Core.List.{List, [], _∷_}
 use Prim.Native.Nat.{ℕ, _+_, _-_, _%_, _≤_, _<_, max}
-use native.Mathlib.Nat.{add-zero, mod-lt, max-eq-left, max-eq-right}
+use native.Mathlib.Nat.{mod-lt, max-eq-right}
 use native.Mathlib.Decide.{decLt, decLe}
 use native.Mathlib.Omega.{arith}
 use Rattle.table.specs.Anchors.{Anchor, firstStart, distance}

@@ -1,16 +1,10 @@
 pub mod Anchors
 pub mod WellFormed
 pub mod Reading
-pub mod Ticks
 pub mod Figures
-pub mod Folding
 pub mod Segments
 pub mod GreatestDelay
 pub mod LowDelay
-pub mod DelaySum
-pub mod Gathering
-pub mod LongestRun
-pub mod Exceeding
 pub mod Places
 pub mod BothWays
 pub mod Delays

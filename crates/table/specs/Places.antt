@@ -1,7 +1,7 @@
--- A table by places: what a loop over the places of the two lists needs, and one step of each fold and test.
+-- A table by places: what a loop over the places of the two lists needs, and one step of the test of well-formed.
 use mathlib.Core.Path.{_≡_, refl, ap}
 use mathlib.Core.List.{List, [], _∷_}
-use Prim.Native.Nat.{ℕ, zero, suc, _+_, _-_, _≤_, _<_}
+use Prim.Native.Nat.{ℕ, zero, suc, _+_, _≤_, _<_}
 use native.Mathlib.Decide.{decLt}
 use native.Mathlib.Numerals.{add-one}
 use native.Mathlib.Omega.{arith}
@@ -9,8 +9,6 @@ use borrow.Author.Tests.{lt-ltb, le-ltb}
 use lib.ListN.{length, getD, take, drop}
 use Rattle.table.specs.Anchors.{Anchor, anchor, anchors, firstStart, next}
 use Rattle.table.specs.WellFormed.{_and_, fitting, spaced, nextStart}
-use Rattle.table.specs.Reading.{lastAt}
-use Rattle.table.specs.Segments.{segments}
 
 -- what the lists hold from g on is no part of the table
 pub anchors-take : (s v : List ℕ) (g : ℕ) → anchors (take g s) (take g v) g ≡ anchors s v g
@@ -20,7 +18,7 @@ anchors-take [] v (suc g) = refl
 anchors-take (a ∷ s) [] (suc g) = refl
 anchors-take (a ∷ s) (b ∷ v) (suc g) = ap (λ (l : List Anchor). anchor a b ∷ l) (anchors-take s v g)
 
-anchors-end : (s v : List ℕ) (g : ℕ) → drop g (anchors s v g) ≡ []
+pub anchors-end : (s v : List ℕ) (g : ℕ) → drop g (anchors s v g) ≡ []
 unfolding anchors
 anchors-end s v zero = refl
 anchors-end [] v (suc g) = refl
@@ -60,18 +58,8 @@ module _ (s v : List ℕ) (g : ℕ) (p : g ≤ length s) (q : g ≤ length v) wh
   unfolding spaced
   spaced-at limit i h = rw (anchors-at i h, next-at limit i h)
 
-  -- one step of a fold over the anchors
-  pub segments-at : {S : Type 0} (seg : S → ℕ → ℕ → S) (limit i : ℕ) (z : S) → i < g
-      → segments seg limit (drop i (anchors s v g)) z ≡ segments seg limit (drop (i + 1) (anchors s v g)) (seg z (nextStart s g limit i - getD s i 0) (getD v i 0))
-  unfolding segments
-  segments-at seg limit i z h = rw (anchors-at i h, ← (next-at limit i h))
-
 pub spaced-end : (s v : List ℕ) (g limit i : ℕ) → i ≡ g → spaced limit (drop i (anchors s v g)) ≡ spaced limit []
 spaced-end s v g limit i e = rw (e, anchors-end s v g)
-
-pub segments-end : {S : Type 0} (seg : S → ℕ → ℕ → S) (s v : List ℕ) (g limit i : ℕ) (z : S) → i ≡ g → segments seg limit (drop i (anchors s v g)) z ≡ z
-unfolding segments
-segments-end seg s v g limit i z e = rw (e, anchors-end s v g)
 
 -- the start after a place that is not the last, and after the last
 pub next-inner : (s : List ℕ) (g limit i : ℕ) → i + 1 < g → nextStart s g limit i ≡ getD s (i + 1) 0

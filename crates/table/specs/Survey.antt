@@ -1,4 +1,4 @@
--- Document 01, "Survey examples": what chain A's table answers, computed from the definitions. The lists have a third entry, which is no
+-- Document 01, "Survey examples": what chain A's table answers at a tick, computed from the definitions. The lists have a third entry, which is no
 -- part of the table.
 use mathlib.Core.Path.{_≡_, refl}
 use mathlib.Core.Bool.{true, false}
@@ -6,21 +6,14 @@ use mathlib.Core.List.{List, [], _∷_, map}
 use Prim.Native.Nat.{ℕ}
 use Rattle.refusal.specs.Refusals.{refusal}
 use Rattle.table.specs.declared.Reading.the-variants as read
-use Rattle.table.specs.declared.Greatest.the-variants as most
-use Rattle.table.specs.declared.Low.the-variants as least
-use Rattle.table.specs.declared.Mean.the-variants as mean
-use Rattle.table.specs.declared.Throughput.the-variants as rate
-use Rattle.table.specs.declared.Exceedance.the-variants as exceed
 use Rattle.table.specs.Anchors.{anchors}
 use Rattle.table.specs.WellFormed.{spaced, wellFormed}
 use Rattle.table.specs.Reading.{lastAt, delayAt, reading}
-use Rattle.table.specs.Ticks.{ticks, total, everyAbove, longestRun}
-use Rattle.table.specs.Figures.{greatest, lowTo, low, delaySum, exceedance, greatestOf, lowOf, meanOf, throughputOf, exceedanceOf}
 
-abbrev starts : List ℕ
+abbrev pub starts : List ℕ
 starts = 0 ∷ 8 ∷ 4 ∷ []
 
-abbrev latencies : List ℕ
+abbrev pub latencies : List ℕ
 latencies = 18 ∷ 16 ∷ 0 ∷ []
 
 -- well-formed with 2 anchors; not with none, 3 or 4
@@ -44,16 +37,3 @@ refusals : (reading starts latencies 3 12 0 ∷ reading (4 ∷ []) (18 ∷ []) 1
     ≡ map (λ (n : ℕ). read.Refused (refusal n 0)) (14 ∷ 12 ∷ 13 ∷ [])
 unfolding reading wellFormed spaced anchors
 refusals = refl
-
--- A2's greatest latency, A6, and 2 anchors in 12 ticks
-figures : (greatestOf starts latencies 2 12 ≡ most.Latency 18)
-    × (lowOf starts latencies 2 12 ≡ least.Limit 10)
-    × (meanOf starts latencies 2 12 ≡ mean.Sum 174 12)
-    × (throughputOf starts latencies 2 12 ≡ rate.Anchors 2 12)
-unfolding greatestOf lowOf meanOf throughputOf wellFormed spaced anchors greatest low lowTo delaySum total delayAt lastAt
-figures = (refl, refl, refl, refl)
-
--- A7
-exceedances : map (exceedanceOf starts latencies 2 12) (18 ∷ 14 ∷ 11 ∷ 10 ∷ []) ≡ exceed.Run 0 ∷ exceed.Run 4 ∷ exceed.Run 11 ∷ exceed.Endless ∷ []
-unfolding exceedanceOf wellFormed spaced anchors exceedance everyAbove longestRun ticks delayAt lastAt
-exceedances = refl

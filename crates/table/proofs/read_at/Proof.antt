@@ -5,7 +5,8 @@ use native.Mathlib.Nat.{mod-lt}
 use native.Mathlib.Omega.{arith}
 use borrow.Author.Tests.{not-true, not-false}
 use Rattle.table.specs.WellFormed.{WellFormed}
-use Rattle.table.proofs.Exits.{well, read-unformed, read-early, read-late, read-room, read-delay}
+use Rattle.table.specs.BothWays.{well}
+use Rattle.table.proofs.Exits.{read-unformed, read-early, read-late, read-room, read-delay}
 use borrow.Author.Needs.{needs}
 use Rattle.table.proofs.read_at.Statement.{statement}
 use Rattle.table.proofs.read_at.Tie as tie

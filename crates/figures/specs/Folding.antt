@@ -1,0 +1,31 @@
+-- Laws of a fold over successive ticks: it splits, it depends only on the figures, and the sum is one.
+use mathlib.Core.Path.{_≡_, refl, ap, _∙_}
+use Prim.Native.Nat.{ℕ, zero, suc, _+_, _<_}
+use native.Mathlib.Nat.{zero-add, add-zero, add-suc, suc-add}
+use native.Mathlib.Omega.{arith}
+use Rattle.figures.specs.Ticks.{ticks, total}
+
+module _ {S : Type 0} (step : S → ℕ → S) where
+  -- first n ticks, then m
+  pub ticks-add : (f : ℕ → ℕ) (n m s : ℕ) (z : S) → ticks step f s (n + m) z ≡ ticks step f (s + n) m (ticks step f s n z)
+  unfolding ticks
+  ticks-add f zero m s z = rw (zero-add, add-zero)
+  ticks-add f (suc n) m s z = rw (suc-add n m, add-suc s n, ← (suc-add s n)) (ticks-add f n m (suc s) (step z (f s)))
+
+  -- equal figures, from s on and from t on
+  pub ticks-same : (f g : ℕ → ℕ) (n s t : ℕ) (z : S) → ((i : ℕ) → i < n → f (s + i) ≡ g (t + i)) → ticks step f s n z ≡ ticks step g t n z
+  unfolding ticks
+  ticks-same f g zero s t z h = refl
+  ticks-same f g (suc n) s t z h =
+      let e : f s ≡ g t = rw (add-zero s, add-zero t) at (h 0 (omega arith)) in
+      ap (λ (v : ℕ). ticks step f (suc s) n (step z v)) e
+      ∙ ticks-same f g n (suc s) (suc t) (step z (g t)) (λ i l. rw (suc-add s i, suc-add t i, ← (add-suc s i), ← (add-suc t i)) (h (suc i) (omega arith)))
+
+abbrev pub plus : ℕ → ℕ → ℕ
+plus z v = z + v
+
+-- the sum is the fold by plus
+pub total-ticks : (f : ℕ → ℕ) (n s z : ℕ) → ticks plus f s n z ≡ z + total f s n
+unfolding ticks total
+total-ticks f zero s z = omega arith
+total-ticks f (suc n) s z = total-ticks f n (suc s) (z + f s) ∙ omega arith

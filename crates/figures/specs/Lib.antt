@@ -1,0 +1,10 @@
+pub mod Ticks
+pub mod Figures
+pub mod Folding
+pub mod ByAnchors
+pub mod DelaySum
+pub mod Gathering
+pub mod LongestRun
+pub mod Exceeding
+pub mod EveryBound
+pub mod Survey
