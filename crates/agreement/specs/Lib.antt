@@ -1,3 +1,4 @@
+pub mod Compare
 pub mod Jobs
 pub mod ReadsAsWalk
 pub mod WellSpaced

@@ -132,6 +132,13 @@ module _ (c : Chain) (twelve : length (c .tasks) ≡ 12) where
     unfolding table
     latencies-are = makes .leaves-latencies ∙ ap (λ (l : List Anchor). overlay (latenciesOf l) v) written
 
+    -- the lists keep their lengths, which are enough
+    pub starts-length : length s′ ≡ length s
+    starts-length = ap length starts-are ∙ overlay-length (startsOf (canonical (tasksOf c) (hyperOf (tasksOf c)))) s
+
+    pub latencies-length : length v′ ≡ length v
+    latencies-length = ap length latencies-are ∙ overlay-length (latenciesOf (canonical (tasksOf c) (hyperOf (tasksOf c)))) v
+
     -- the first g entries are the chain's anchors
     pub made-anchors : anchors s′ v′ (f .anchors) ≡ canonical (tasksOf c) (hyperOf (tasksOf c))
     made-anchors =
@@ -150,8 +157,8 @@ module _ (c : Chain) (twelve : length (c .tasks) ≡ 12) where
     made-well-formed =
         let l = tasksOf c in
         let ok = done .sound in
-        let n : length s′ ≡ length s = ap length starts-are ∙ overlay-length (startsOf (canonical l (hyperOf l))) s in
-        let m : length v′ ≡ length v = ap length latencies-are ∙ overlay-length (latenciesOf (canonical l (hyperOf l))) v in
+        let n = starts-length in
+        let m = latencies-length in
         let some : 1 ≤ f .anchors = omega (arith, done .count, ap length (canonical-cons l ok)) in
         let w = warm-range l ok 0 (ok .some) in
         rw (
