@@ -1,9 +1,7 @@
 // The calls for C and for hosts: plain numbers and lists of numbers. include/meshorchard.h declares them and says how to use them.
 // A call answers 0, or its refusal as one number: the refusal's number and 256 times its place. What it gives else goes to the numbers that are lent to it.
-use chain::Chain;
 use chain::Verdict;
 use task::Job;
-use task::Task;
 use task::Tick;
 use timing::Span;
 ghost use mathlib.Core.Path.{_≡_};
@@ -11,64 +9,9 @@ ghost use mathlib.Core.List.{map};
 ghost use Prim.Native.Nat.{_+_, _*_, _≤_, _<_};
 ghost use Rattle.refusal.specs.Refusals.{codeOf};
 ghost use Rattle.chain.specs.Checks.{verdictOf};
+ghost use Rattle.capi_chain.specs.FlatChain.{chainFrom};
 ghost use Rattle.timing.specs.Answers.{warmUpOf, delayOf, ageOf};
-ghost use Rattle.capi_timing.specs.Calls.{taskAt, placesOf, chainFrom, verdictCode, verdictHyper, spanCode, spanTicks, jobNumber, GivesWarmUp, SmallSpan};
-
-// Task i of a flat list T, D, F, T, D, F, ..; zeros past its end.
-fn task_at(list: &[u64], i: usize) -> Task
-    requires { ⌜ i < 12 ⌝ }
-    ensures { λ r. ⌜ r ≡ taskAt (now (list .entry)) i ⌝ }
-{
-    let at = 3 * i;
-    if list.len() < at + 3 {
-        return Task {
-            period: 0,
-            duration: 0,
-            phase: 0,
-        };
-    }
-    Task {
-        period: list[at],
-        duration: list[at + 1],
-        phase: list[at + 2],
-    }
-}
-
-// The number of places, or 0 where the list does not hold that many tasks.
-fn places_from(length: usize, places: usize) -> usize
-    ensures { λ r. ⌜ r ≡ placesOf length places ⌝ }
-{
-    if length % 3 != 0 {
-        return 0;
-    }
-    if length / 3 < places {
-        return 0;
-    }
-    places
-}
-
-// The chain of a flat list and a number of places.
-fn chain_from(list: &[u64], places: usize) -> Chain
-    ensures { λ r. ⌜ r ≡ chainFrom (now (list .entry)) places ⌝ }
-{
-    Chain {
-        tasks: [
-            task_at(list, 0),
-            task_at(list, 1),
-            task_at(list, 2),
-            task_at(list, 3),
-            task_at(list, 4),
-            task_at(list, 5),
-            task_at(list, 6),
-            task_at(list, 7),
-            task_at(list, 8),
-            task_at(list, 9),
-            task_at(list, 10),
-            task_at(list, 11),
-        ],
-        places: places_from(list.len(), places),
-    }
-}
+ghost use Rattle.capi_timing.specs.Calls.{verdictCode, verdictHyper, spanCode, spanTicks, jobNumber, GivesWarmUp, SmallSpan};
 
 // Gives a span of ticks: its code, and its ticks to the number lent.
 fn give(s: Span, out: &mut u64) -> u64
@@ -106,7 +49,7 @@ fn job_numbers(all: [Job; 12]) -> [u64; 12]
 pub extern "C" fn mo_check(tasks: &[u64], places: usize, hyperperiod: &mut u64) -> u64
     ensures { λ r. ⌜ (r ≡ verdictCode (verdictOf (chainFrom (now (tasks .entry)) places))) × (now (hyperperiod .exit) ≡ verdictHyper (verdictOf (chainFrom (now (tasks .entry)) places))) ⌝ }
 {
-    let v = chain::check(chain_from(tasks, places));
+    let v = chain::check(capi_chain::chain_from(tasks, places));
     match v {
         Verdict::Accepted(h) => {
             *hyperperiod = h;
@@ -130,7 +73,7 @@ pub extern "C" fn mo_warm_up(
 ) -> u64
     ensures { λ r. ⌜ GivesWarmUp (warmUpOf (chainFrom (now (tasks .entry)) places)) r (now (jobs .exit)) (now (tick .exit)) (now (hyperperiod .exit)) ⌝ }
 {
-    let w = timing::warm_up(chain_from(tasks, places));
+    let w = timing::warm_up(capi_chain::chain_from(tasks, places));
     let all = w.jobs;
     *jobs = job_numbers(all);
     let from = w.tick;
@@ -145,7 +88,10 @@ pub extern "C" fn mo_warm_up(
 pub extern "C" fn mo_delay(tasks: &[u64], places: usize, t: u64, delay: &mut u64) -> u64
     ensures { λ r. ⌜ (r ≡ spanCode (delayOf (chainFrom (now (tasks .entry)) places) t)) × (now (delay .exit) ≡ spanTicks (delayOf (chainFrom (now (tasks .entry)) places) t)) ⌝ }
 {
-    give(timing::delay(chain_from(tasks, places), Tick(t)), delay)
+    give(
+        timing::delay(capi_chain::chain_from(tasks, places), Tick(t)),
+        delay,
+    )
 }
 
 // Ageing: the age at tick z.
@@ -153,5 +99,8 @@ pub extern "C" fn mo_delay(tasks: &[u64], places: usize, t: u64, delay: &mut u64
 pub extern "C" fn mo_age(tasks: &[u64], places: usize, z: u64, age: &mut u64) -> u64
     ensures { λ r. ⌜ (r ≡ spanCode (ageOf (chainFrom (now (tasks .entry)) places) z)) × (now (age .exit) ≡ spanTicks (ageOf (chainFrom (now (tasks .entry)) places) z)) ⌝ }
 {
-    give(timing::age(chain_from(tasks, places), Tick(z)), age)
+    give(
+        timing::age(capi_chain::chain_from(tasks, places), Tick(z)),
+        age,
+    )
 }

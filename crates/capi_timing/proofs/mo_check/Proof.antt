@@ -1,7 +1,7 @@
 use mathlib.Core.Path.{_≡_, sym, ap, _∙_}
 use Rattle.chain.specs.declared.Verdict.{Verdict}
 use Rattle.chain.specs.Checks.{verdictOf}
-use Rattle.capi_timing.specs.Calls.{chainFrom, verdictCode, verdictHyper}
+use Rattle.capi_timing.specs.Calls.{verdictCode, verdictHyper}
 use Rattle.capi_timing.proofs.Small.{verdict-fits}
 use borrow.Author.Needs.{needs}
 use Rattle.capi_timing.proofs.mo_check.Statement.{statement}

@@ -1,7 +1,7 @@
-use Rattle.capi_timing.specs.Calls.{chainFrom}
+use Rattle.capi_chain.specs.FlatChain.{chainFrom}
 use borrow.Author.Needs.{needs}
-use Rattle.capi_timing.proofs.chain_from.Statement.{statement}
-use Rattle.capi_timing.proofs.chain_from.Tie as tie
+use Rattle.capi_chain.proofs.chain_from.Statement.{statement}
+use Rattle.capi_chain.proofs.chain_from.Tie as tie
 
 task-at-requires : tie.Need-task-at-requires
 task-at-requires c κs = search needs

@@ -1,8 +1,8 @@
 use borrow.Author.Tests.{le-leb, lt-leb}
-use Rattle.capi_timing.specs.Calls.{taskAt}
+use Rattle.capi_chain.specs.FlatChain.{taskAt}
 use borrow.Author.Needs.{needs}
-use Rattle.capi_timing.proofs.task_at.Statement.{statement}
-use Rattle.capi_timing.proofs.task_at.Tie as tie
+use Rattle.capi_chain.proofs.task_at.Statement.{statement}
+use Rattle.capi_chain.proofs.task_at.Tie as tie
 
 mul-at : tie.Need-mul-at
 mul-at c = search needs

@@ -1,7 +1,7 @@
 use borrow.Author.Tests.{le-leb, lt-leb, eq-eqb, ne-eqb}
-use Rattle.capi_timing.specs.Calls.{placesOf}
-use Rattle.capi_timing.proofs.places_from.Statement.{statement}
-use Rattle.capi_timing.proofs.places_from.Tie as tie
+use Rattle.capi_chain.specs.FlatChain.{placesOf}
+use Rattle.capi_chain.proofs.places_from.Statement.{statement}
+use Rattle.capi_chain.proofs.places_from.Tie as tie
 
 returns : tie.Need-returns
 unfolding placesOf
