@@ -85,6 +85,54 @@ def lists_of_tasks(ours, r, factor, compare):
             compare.same(ours.check(whole, places), eight, "places", whole, places)
 
 
+def compare_figures(ours, lent, table, compare):
+    for name in ("greatest", "low", "mean", "throughput"):
+        compare.same(getattr(ours, name)(lent), getattr(reference, name)(*table), name, table)
+
+
+def compare_table(ours, r, anchors, ticks, most, compare):
+    """A well-formed table, with rubbish past its anchors: its figures, its readings at these ticks and around its corners, its exceedances."""
+    starts, latencies, h = anchors
+    table = (*inputs.with_rest(r, starts, latencies), len(starts), h)
+    lent = library.table(*table)
+    compare.same(reference.well_formed(*table), True, "well-formed", table)
+    compare_figures(ours, lent, table, compare)
+    for t in [*ticks, *inputs.table_ticks(r, starts, h)]:
+        compare.same(ours.read_table(lent, t), reference.read_table(*table, t), "reading", table, t)
+    for b in inputs.bounds(r, latencies, reference.low(*table)[1], most):
+        compare.same(ours.exceedance(lent, b), reference.exceedance(*table, b), "exceedance", table, b)
+
+
+@group
+def tables(ours, r, factor, compare):
+    """readings and figures of well-formed tables"""
+    for _ in range(int(8000 * factor)):
+        starts, latencies, h = inputs.small_table(r)
+        every = range(max(0, starts[0] - 2), starts[0] + h + 2)
+        compare_table(ours, r, (starts, latencies, h), every, 30, compare)
+    for _ in range(int(150 * factor)):
+        compare_table(ours, r, inputs.middle_table(r), [], 4, compare)
+    for _ in range(int(1000 * factor)):
+        compare_table(ours, r, inputs.large_table(r), [], 12, compare)
+
+
+@group
+def damaged_tables(ours, r, factor, compare):
+    """readings and figures of tables with one fault"""
+    fourteen = ("refused", 14, 0)
+    for damaged in inputs.DAMAGES:
+        for _ in range(int(1000 * factor)):
+            table = damaged(r)
+            lent = library.table(*table)
+            t, b = inputs.any_number(r), inputs.any_number(r)
+            if table[0]:
+                t = r.choice([t, table[0][0]])
+            compare.same(reference.read_table(*table, t), fourteen, damaged.__name__, table)
+            compare.same(ours.read_table(lent, t), fourteen, "reading", table, t)
+            compare_figures(ours, lent, table, compare)
+            compare.same(ours.exceedance(lent, b), reference.exceedance(*table, b), "exceedance", table, b)
+
+
 def main():
     parser = argparse.ArgumentParser()
     parser.add_argument("--count", type=float, default=1.0, help="how much longer than usual")

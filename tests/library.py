@@ -1,6 +1,6 @@
 """The proved calls, as a shared object that Python can call.
 
-build() makes the archives with `rt staticlib`, links them into one shared object below target/,
+build() links the archives for C, which tests/archives makes, into one shared object below target/,
 and Library wraps each call: it takes plain ints and lists and answers as the reference does.
 """
 import ctypes
@@ -9,18 +9,19 @@ import subprocess
 
 TOP = os.path.dirname(os.path.dirname(os.path.abspath(__file__)))
 SHARED = os.path.join(TOP, "target", "tests", "libmeshorchard.so")
-CRATES = ["capi_timing"]
 U64 = ctypes.c_uint64
 SIZE = ctypes.c_size_t
 LARGEST = 2**64 - 1
+# What every number lent for an answer holds before the call.
+RUBBISH = 0xDEADBEEF
+# Reading a table answers a delay below this, or this and the refusal's number.
+REFUSED = 2**32
 
 
 def build():
-    """Prove and compile the library crates, and link them into one shared object."""
-    archives = []
-    for crate in CRATES:
-        subprocess.run(["rt", "staticlib", crate], cwd=TOP, check=True, stdout=subprocess.DEVNULL)
-        archives.append(os.path.join(TOP, "target", "staticlib", f"lib{crate}.a"))
+    """Link the archives into one shared object."""
+    made = subprocess.run([os.path.join(TOP, "tests", "archives")], check=True, stdout=subprocess.PIPE, text=True)
+    archives = [os.path.join(TOP, archive) for archive in made.stdout.split()]
     os.makedirs(os.path.dirname(SHARED), exist_ok=True)
     whole = ["-Wl,--whole-archive", *archives, "-Wl,--no-whole-archive"]
     subprocess.run(["gcc", "-shared", "-o", SHARED, *whole], check=True)
@@ -37,19 +38,28 @@ def refusal(code):
     return ("refused", code % 256, code // 256)
 
 
+def table(starts, latencies, g, h):
+    """A lent table: the first arguments of every call on one."""
+    return (*words(starts), *words(latencies), U64(g), U64(h))
+
+
 class Library:
     def __init__(self, path):
         self.c = ctypes.CDLL(path)
-        for name in ("mo_check", "mo_warm_up", "mo_delay", "mo_age"):
+        for name in ("mo_check", "mo_warm_up", "mo_delay", "mo_age", "mo_read_table", "mo_greatest", "mo_low", "mo_mean", "mo_throughput", "mo_exceedance"):
             getattr(self.c, name).restype = U64
 
-    def one(self, call, *arguments):
-        """A call that lends one number, filled with rubbish before. A refusal must leave 0 there."""
-        out = U64(0xDEADBEEF)
-        code = call(*arguments, ctypes.byref(out))
+    def numbers(self, call, count, *arguments):
+        """A call that lends `count` numbers, filled with rubbish before. A refusal must leave 0 in each."""
+        outs = [U64(RUBBISH) for _ in range(count)]
+        code = call(*arguments, *[ctypes.byref(out) for out in outs])
+        values = [out.value for out in outs]
         if code == 0:
-            return ("ok", out.value)
-        return refusal(code) if out.value == 0 else ("left", code, out.value)
+            return ("ok", *values)
+        return refusal(code) if not any(values) else ("left", code, *values)
+
+    def one(self, call, *arguments):
+        return self.numbers(call, 1, *arguments)
 
     def check(self, flat, places):
         return self.one(self.c.mo_check, *words(flat), SIZE(places))
@@ -68,3 +78,28 @@ class Library:
         if list(jobs) == [0] * 12 and tick.value == 0 and hyper.value == 0:
             return refusal(code)
         return ("left", code, list(jobs), tick.value, hyper.value)
+
+    # The calls on a lent table.
+
+    def read_table(self, lent, t):
+        answer = self.c.mo_read_table(*lent, U64(t))
+        return ("ok", answer) if answer < REFUSED else ("refused", answer - REFUSED, 0)
+
+    def greatest(self, lent):
+        return self.numbers(self.c.mo_greatest, 1, *lent)
+
+    def low(self, lent):
+        return self.numbers(self.c.mo_low, 1, *lent)
+
+    def mean(self, lent):
+        return self.numbers(self.c.mo_mean, 2, *lent)
+
+    def throughput(self, lent):
+        return self.numbers(self.c.mo_throughput, 2, *lent)
+
+    def exceedance(self, lent, bound):
+        """The run, or "endless", beside which the run must be 0."""
+        answer = self.numbers(self.c.mo_exceedance, 2, *lent, U64(bound))
+        if answer == ("ok", 0, 1):
+            return ("ok", "endless")
+        return answer[:2] if answer[0] == "ok" and answer[2] == 0 else answer

@@ -1,30 +1,9 @@
 /*
- * Reads tables through the header that the firmware includes, and holds each answer to document 01. From the repository's root:
- *
- *   rt staticlib table
- *   gcc -std=c11 -Wall -Wextra -Iinclude tests/c/read_table.c target/staticlib/libtable.a -o target/read_table
- *   target/read_table
- *
- * One line for each check; the last line is 'N passed, M failed', and the exit status is 1 where one failed.
+ * Reads tables through the header that the firmware includes, and holds each answer to document 01. tests/c/run builds and runs it.
  */
 #include "meshorchard.h"
 
-#include <inttypes.h>
-#include <stdio.h>
-
-static unsigned passed;
-static unsigned failed;
-
-static void expect(const char *what, uint64_t got, uint64_t wanted)
-{
-    if (got == wanted) {
-        passed++;
-        printf("ok    %s: %" PRIu64 "\n", what, got);
-    } else {
-        failed++;
-        printf("WRONG %s: %" PRIu64 ", wanted %" PRIu64 "\n", what, got, wanted);
-    }
-}
+#include "expect.h"
 
 /* Chain A's table. The third entry is no part of it. */
 static const uint64_t starts[3] = { 0, 8, 3 };
@@ -128,6 +107,5 @@ int main(void)
     check_delays();
     check_refused_tables();
     check_refused_ticks();
-    printf("%u passed, %u failed\n", passed, failed);
-    return failed ? 1 : 0;
+    return counted();
 }
