@@ -5,6 +5,7 @@
 Each group prints its number of comparisons; the last line is 'N passed, M failed', in groups. A disagreement is printed with its input.
 """
 import argparse
+import math
 import os
 import random
 import sys
@@ -83,6 +84,58 @@ def lists_of_tasks(ours, r, factor, compare):
         for places in (len(tasks) + 1, 13, 2**32, 2**63, library.LARGEST):
             compare.same(ours.age(whole, places, 100), eight, "places", whole, places)
             compare.same(ours.check(whole, places), eight, "places", whole, places)
+
+
+def compare_making(ours, r, tasks, numbers, p, lengths, compare):
+    """One making on lists of these lengths: its answer, and every entry of both lists after it."""
+    starts, latencies = inputs.lent_lists(r, *lengths)
+    mine = ours.make(numbers, len(tasks), p, starts, latencies)
+    theirs = reference.make(tasks, p, starts, latencies)
+    compare.same(mine, theirs, "making", tasks, p, lengths)
+    return mine
+
+
+@group
+def making(ours, r, factor, compare):
+    """making a table at every cut, and its agreement with walk and age"""
+    for _ in range(int(10000 * factor)):
+        tasks = inputs.cut_chain(r)
+        numbers, n = lent(r, tasks), len(tasks)
+        g = len(reference.anchors(tasks, 1))
+        lengths = [(g, g), (g + r.randint(1, 3),) * 2, (r.randint(0, g - 1),) * 2, (g, g + 1)]
+        for p in range(1, n + 1):
+            made = compare_making(ours, r, tasks, numbers, p, r.choice(lengths), compare)
+        # The last cut once more, on lists that hold the table; then its readings against the walk, and its greatest latency against both.
+        p, size = r.randint(1, n), r.choice([g, g + 2])
+        (answer, starts, latencies) = compare_making(ours, r, tasks, numbers, p, (size, size), compare)
+        if answer[0] != "ok":
+            continue
+        _, g, x0, h, _ = answer
+        table = library.table(starts, latencies, g, h)
+        ticks = [x0, x0 + h, inputs.UPPER, inputs.UPPER - r.randint(0, 3 * h), r.randint(x0, inputs.UPPER)]
+        for start in r.sample(starts[:g], min(g, 6)):
+            ticks += [start, max(x0, start - 1), start + h * r.randint(1, 10**6 // h + 1)]
+        for t in ticks:
+            if t <= inputs.UPPER:
+                compare.same(ours.read_table(table, t), ours.delay(numbers, n, t), "table and walk", tasks, p, t)
+        top = ours.greatest(table)
+        for start, latency in zip(starts[:g], latencies[:g]):
+            if ("ok", latency) == top:
+                compare.same(ours.delay(numbers, n, start), top, "greatest delay", tasks, p)
+                compare.same(ours.age(numbers, n, start + latency - 1), ("ok", latency - 1), "greatest age", tasks, p)
+
+
+@group
+def making_refused(ours, r, factor, compare):
+    """making refused: chains, places and lists"""
+    for _ in range(int(2000 * factor)):
+        tasks = inputs.cut_chain(r) if r.random() < 0.5 else inputs.any_chain(r)
+        if len(tasks) in range(1, 13) and reference.check_chain(tasks)[0] == "ok" and math.lcm(*[t for t, _, _ in tasks]) > 10**4:
+            tasks = inputs.cut_chain(r)
+        numbers = lent(r, tasks)
+        for p in (0, len(tasks) + 1, 13, library.LARGEST, r.randint(0, 13)):
+            size = r.randint(0, 5)
+            compare_making(ours, r, tasks, numbers, p, (size, size + r.choice([0, 0, 1])), compare)
 
 
 def compare_figures(ours, lent, table, compare):

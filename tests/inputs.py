@@ -1,4 +1,6 @@
 """Random, boundary and damaged inputs. Every draw comes from the generator that is passed in."""
+import math
+
 LARGEST = 2**64 - 1
 UPPER = 10**12
 # Periods that meet in small hyperperiods, up to the limits of a task.
@@ -250,3 +252,28 @@ def bounds(r, latencies, low, most):
     some = within([middle + step for middle in [low, *latencies] for step in (-1, 0, 1)] + [r.randint(0, MOST_LATENCY), 2**63])
     return [0, LARGEST, low, low + 1, *r.sample(some, min(most, len(some)))]
 
+
+
+def cut_chain(r):
+    """A chain whose hyperperiod holds few enough jobs that every cut can be walked by definition."""
+    while True:
+        draw = r.random()
+        if draw < 0.6:
+            tasks = [(r.randint(1, 8), r.randint(1, 12), r.randint(0, 20)) for _ in range(r.choice([1, 2, 2, 3, 3, 4, 5]))]
+        elif draw < 0.75:
+            base = r.choice([1, 10, 1000, 250000])
+            tasks = [(base * r.choice([1, 2, 4]), r.randint(1, 4 * base), r.randint(0, 4 * base)) for _ in range(r.choice([2, 3, 6, 12]))]
+        elif draw < 0.9:
+            tasks = [(r.choice([100000, 200000, 250000, 500000, 1000000]), r.randint(1, 4000000), r.randint(0, 1000000)) for _ in range(r.choice([1, 2, 3, 5, 12]))]
+        else:
+            # one task fills several places
+            one = (r.randint(1, 9), r.randint(1, 9), r.randint(0, 9))
+            tasks = [one, small_task(r), one]
+        periods = [t for t, _, _ in tasks]
+        if math.lcm(*periods) <= 60 * min(periods):
+            return tasks
+
+
+def lent_lists(r, n, m):
+    """Two lent lists of these lengths, with rubbish in them."""
+    return [r.randint(0, LARGEST) for _ in range(n)], [r.randint(0, LARGEST) for _ in range(m)]

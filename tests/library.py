@@ -46,7 +46,7 @@ def table(starts, latencies, g, h):
 class Library:
     def __init__(self, path):
         self.c = ctypes.CDLL(path)
-        for name in ("mo_check", "mo_warm_up", "mo_delay", "mo_age", "mo_read_table", "mo_greatest", "mo_low", "mo_mean", "mo_throughput", "mo_exceedance"):
+        for name in ("mo_check", "mo_warm_up", "mo_delay", "mo_age", "mo_make_table", "mo_read_table", "mo_greatest", "mo_low", "mo_mean", "mo_throughput", "mo_exceedance"):
             getattr(self.c, name).restype = U64
 
     def numbers(self, call, count, *arguments):
@@ -78,6 +78,20 @@ class Library:
         if list(jobs) == [0] * 12 and tick.value == 0 and hyper.value == 0:
             return refusal(code)
         return ("left", code, list(jobs), tick.value, hyper.value)
+
+    def make(self, flat, places, p, starts, latencies):
+        """Making, and what the two lists hold after it."""
+        first, n = words(starts)
+        second, m = words(latencies)
+        figures = (U64 * 4)(*[RUBBISH] * 4)
+        code = self.c.mo_make_table(*words(flat), SIZE(places), SIZE(p), first, n, second, m, figures)
+        if code == 0:
+            answer = ("ok", *figures)
+        elif code == 11:
+            answer = ("refused", 11, 0, *figures)
+        else:
+            answer = refusal(code) if not any(figures) else ("left", code, *figures)
+        return answer, list(first)[: len(starts)], list(second)[: len(latencies)]
 
     # The calls on a lent table.
 
