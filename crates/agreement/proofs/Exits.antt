@@ -2,7 +2,7 @@
 use Prim.Native.Nat.{ℕ, zero, suc, _+_, _-_, _≤_, _<_}
 use native.Mathlib.Omega.{arith}
 use native.Mathlib.Decide.{decLe}
-use mathlib.Core.Path.{_≡_, refl, sym, ap, _∙_}
+use mathlib.Core.Path.{_≡_, refl, sym, ap, _∙_, subst}
 use mathlib.Core.Bool.{Bool, true, false, cond, _&&_}
 use mathlib.Core.List.{List}
 use lib.Dec.{eqb, leb, ltb}
@@ -32,8 +32,10 @@ use Rattle.maker.specs.declared.Figures.{Figures}
 use Rattle.maker.specs.declared.Made.{Made}
 use Rattle.maker.specs.declared.Made.the-variants.{Whole}
 use Rattle.maker.specs.Making.{Makes}
-use Rattle.agreement.specs.Compare.{sameDelay, sameUpTo, sameEntries, sameAnchors, spanAtMost}
+use Rattle.agreement.specs.Compare.{sameDelay, sameUpTo, sameEntries, sameAnchors, spanAtMost, spanIs, reachedAt}
+use Rattle.agreement.specs.ReadsAsWalk.{canonical-few}
 use Rattle.agreement.specs.MadeTable.{done, starts-length, latencies-length}
+use Rattle.agreement.specs.Reached.{Reached, anchor-reaches}
 use Rattle.agreement.specs.Agreement.{SameDelay, SameAnchors, SameGreatest, table-is-walk, cuts-agree, well-formed, greatest-is-delay-and-age}
 
 pub both-ticks : (w : Span) (x : Reading) (a b : ℕ) → w ≡ span.Ticks a → x ≡ read.Delay b → eqb a b ≡ sameDelay w x
@@ -105,6 +107,21 @@ at-most-some s a k top e h = rw e (elim (decLe (a + k) top) [
   | no g ↦ rw (lt-leb (a + k) top (omega arith)) (lt-leb a (top - k) (omega arith))
 ])
 
+-- ---- where the greatest is met
+
+pub is-span-ticks : (s : Span) (a t : ℕ) → s ≡ span.Ticks a → eqb a t ≡ spanIs s t
+is-span-ticks s a t e = rw e
+
+module _ (c : Chain) (u x : ℕ) (w : Span) (walked : w ≡ delayOf c u) (t : Bool) (tested : t ≡ spanIs w x) where
+  pub reached-not : t ≡ false → false ≡ reachedAt c u x
+  reached-not f = rw (← walked, ← tested, f)
+
+  pub reached-so : t ≡ true → (y : Span) → y ≡ ageOf c (u + x - 1) → (b : Bool) → b ≡ spanIs y (x - 1) → b ≡ reachedAt c u x
+  reached-so f y aged b g = rw (← walked, ← tested, f, ← aged) g
+
+pub reached-true : (c : Chain) (u x : ℕ) → Reached c u x → reachedAt c u x ≡ true
+reached-true c u x r = rw (r .delay, r .age, eq-eqb x x refl) (eq-eqb (x - 1) (x - 1) refl)
+
 -- an answer that has ticks only within its range, where they are bounded
 answer-at-most : (v : Verdict) (from t span k top : ℕ) → (from ≤ t → t ≤ upperTick → span + k ≤ top) → spanAtMost (spanAfter v from t span) k top ≡ true
 unfolding spanAfter
@@ -124,6 +141,16 @@ module _ (c : Chain) (twelve : length (c .tasks) ≡ 12) (p : ℕ) (s v s′ v�
   delays-agree t low high w e x d =
       let a = table-is-walk c twelve p s v s′ v′ f made t low high in
       sym (both-ticks w x (a .delay) (a .delay) (e ∙ a .walked) (d ∙ a .read)) ∙ eq-eqb (a .delay) (a .delay) refl
+
+  -- the lists hold the anchors
+  pub starts-hold : f .anchors ≤ length s′
+  starts-hold = let k = done c twelve p s v s′ v′ f made in omega (arith, k .fit, starts-length c twelve p s v s′ v′ f made)
+
+  pub latencies-hold : f .anchors ≤ length v′
+  latencies-hold = let k = done c twelve p s v s′ v′ f made in omega (arith, k .fit, k .equal, latencies-length c twelve p s v s′ v′ f made)
+
+  pub anchors-few : f .anchors ≤ 60000000
+  anchors-few = let k = done c twelve p s v s′ v′ f made in omega (arith, k .count, k .small, canonical-few (tasksOf c) (k .sound))
 
   -- ---- greatest latency, delay and age
 
@@ -148,6 +175,10 @@ module _ (c : Chain) (twelve : length (c .tasks) ≡ 12) (p : ℕ) (s v s′ v�
         rw q
         (answer-at-most (verdictOf c) (warmTick (tasksOf c)) t (delayAt (tasksOf c) t) 0 x
         (λ low high. omega (arith, same, agreed .greatest-delay .bound t (omega (arith, k .tick)) high)))
+
+    pub meets : (i : ℕ) → i < f .anchors → getD v′ i 0 ≡ x → Reached c (getD s′ i 0) x
+    meets i h q =
+        subst (λ (y : ℕ). Reached c (getD s′ i 0) y) q (anchor-reaches c twelve p s v s′ v′ f made i h (q ∙ sym same ∙ sym (agreed .greatest-latency)))
 
     pub age-at-most : (z : ℕ) (w : Span) → w ≡ ageOf c z → spanAtMost w 1 x ≡ true
     age-at-most z w q =

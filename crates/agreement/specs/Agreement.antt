@@ -57,10 +57,10 @@ overlay-at (x ∷ xs) (y ∷ ys) (suc i) h g = overlay-at xs ys i (omega arith) 
 
 module _ (c : Chain) (twelve : length (c .tasks) ≡ 12) where
   module _ (p : ℕ) (s v s′ v′ : List ℕ) (f : Figures) (makes : Makes c p s v s′ v′ (Whole f)) where
-    held : Completed c p (length s) (length v) f
+    pub held : Completed c p (length s) (length v) f
     held = done c twelve p s v s′ v′ f makes
 
-    walks : (t : ℕ) → f .tick .0 ≤ t → t ≤ upperTick → delayOf c t ≡ Ticks (delayAt (tasksOf c) t)
+    pub walks : (t : ℕ) → f .tick .0 ≤ t → t ≤ upperTick → delayOf c t ≡ Ticks (delayAt (tasksOf c) t)
     unfolding spanAfter
     walks t low high = rw (held .whole, le-ltb t (warmTick (tasksOf c)) (omega (arith, held .tick)), le-ltb upperTick t high)
 

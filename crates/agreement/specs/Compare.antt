@@ -1,9 +1,11 @@
 -- What the functions of this crate compare.
-use Prim.Native.Nat.{ℕ, zero, suc, _+_}
+use Prim.Native.Nat.{ℕ, zero, suc, _+_, _-_}
 use mathlib.Core.Bool.{Bool, true, false, _&&_}
 use mathlib.Core.List.{List}
 use lib.Dec.{eqb, leb}
 use lib.ListN.{length, getD}
+use Rattle.chain.specs.declared.Chain.{Chain}
+use Rattle.timing.specs.Answers.{delayOf, ageOf}
 use Rattle.timing.specs.declared.Span.{Span}
 use Rattle.timing.specs.declared.Span.the-variants as span
 use Rattle.table.specs.declared.Reading.{Reading}
@@ -31,3 +33,12 @@ sameAnchors n k starts latencies starts″ latencies″ = eqb n k && (sameEntrie
 abbrev pub spanAtMost : Span → ℕ → ℕ → Bool
 spanAtMost (span.Ticks a) k top = leb (a + k) top
 spanAtMost (span.Refused r) k top = true
+
+-- A span is these ticks; a refused one is none.
+abbrev pub spanIs : Span → ℕ → Bool
+spanIs (span.Ticks a) ticks = eqb a ticks
+spanIs (span.Refused r) ticks = false
+
+-- The delay at u is `top`, and the age at the tick before u + top is one less.
+abbrev pub reachedAt : Chain → ℕ → ℕ → Bool
+reachedAt c u top = spanIs (delayOf c u) top && spanIs (ageOf c (u + top - 1)) (top - 1)

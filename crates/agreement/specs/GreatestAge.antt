@@ -91,7 +91,7 @@ module _ (l : List Task) (ok : Sound l) (small : hyperOf l ≤ 60000000) where
   unfolding tick
   tick-high = omega (arith, mod-lt (reached .at - warmTick l) (hyper-pos l ok))
 
-  warm-small : warmTick l ≤ 60000000
+  pub warm-small : warmTick l ≤ 60000000
   unfolding warmTick
   warm-small = warm-range l ok 0 (ok .some)
 

@@ -5,3 +5,4 @@ pub mod WellSpaced
 pub mod GreatestAge
 pub mod MadeTable
 pub mod Agreement
+pub mod Reached

@@ -1,11 +1,12 @@
 -- A chain's anchors, read at a tick as a table is, give the delay of the forward walk there (`table-walk`).
 use Prim.Native.Nat.{ℕ, zero, suc, _+_, _-_, _*_, _/_, _%_, _≤_, _<_}
-use native.Mathlib.Nat.{zero-add, suc-add, div-add-mod', mod-lt}
+use native.Mathlib.Nat.{zero-add, suc-add, div-add-mod', div-le-self, mod-lt}
 use native.Mathlib.Decide.{decLt}
 use native.Mathlib.Omega.{arith}
 use mathlib.Core.Path.{_≡_, refl, sym, ap, _∙_}
 use mathlib.Core.Bool.{Bool, true, false, cond}
 use mathlib.Core.List.{List, [], _∷_, map}
+use lib.ListN.{length, length-map}
 use borrow.Author.Tests.{le-leb, lt-leb}
 use Rattle.task.specs.declared.Task.{Task}
 use Rattle.task.specs.Jobs.{readOf}
@@ -21,7 +22,7 @@ use Rattle.table.specs.Anchors.{Anchor}
 use Rattle.table.specs.Reading as table
 use Rattle.table.specs.Reading.{lastAt, gives}
 use Rattle.partition.specs.Lists.{put}
-use Rattle.partition.specs.Selections.{differ-false, select}
+use Rattle.partition.specs.Selections.{differ-false, select, select-length}
 use Rattle.partition.specs.CanonicalAnchors.{news, anchorAt, canon}
 use Rattle.partition.specs.CutFree.{endWalk, canonical}
 use Rattle.agreement.specs.Jobs.{hyper-pos, hyper-first, some-job, first-new}
@@ -106,3 +107,11 @@ module _ (l : List Task) (ok : Sound l) where
       rw canonical-cons
       (read-job u (earliestAfter a u - 1) (omega arith) (omega arith) (omega arith)
       ∙ sym (delay-periods l ok ((t - x) / hyperOf l) u (omega arith)) ∙ ap (delayAt l) (sym s))
+
+  -- There are no more anchors than jobs of the first place in a hyperperiod.
+  pub canonical-few : length (canonical l (hyperOf l)) ≤ hyperOf l
+  unfolding canonical canon
+  canonical-few =
+      let q : ℕ = hyperOf l / at l 0 .period in
+      let chosen = select (news (endWalk l) (readOf (at l 0))) (warmAt l 0) q in
+      omega (arith, length-map chosen (anchorAt (endWalk l) (readOf (at l 0))), select-length (news (endWalk l) (readOf (at l 0))) (warmAt l 0) q, div-le-self (hyperOf l) (at l 0 .period))

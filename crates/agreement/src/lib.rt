@@ -9,7 +9,7 @@ use timing::Span;
 ghost use mathlib.Core.Path.{_≡_};
 ghost use mathlib.Core.Bool.{true};
 ghost use Prim.Native.Nat.{_+_, _≤_, _<_};
-ghost use Rattle.agreement.specs.Compare.{sameDelay, sameEntries, sameAnchors, spanAtMost};
+ghost use Rattle.agreement.specs.Compare.{sameDelay, sameEntries, sameAnchors, spanAtMost, spanIs, reachedAt};
 
 // Whether a walked delay and a delay read are the same; false where one is refused.
 fn same_delay(walked: Span, read: Reading) -> bool
@@ -161,4 +161,52 @@ pub fn greatest_not_exceeded(
         return false;
     }
     at_most(timing::age(c, z), 1, top)
+}
+
+// Whether a span is these ticks.
+fn is_span(s: Span, ticks: u64) -> bool
+    ensures { λ r. ⌜ r ≡ spanIs s ticks ⌝ }
+{
+    match s {
+        Span::Ticks(a) => a == ticks,
+        Span::Refused(_) => false,
+    }
+}
+
+// Whether the delay at tick u is `top`, and the age just before that press is booked one less.
+fn reached_at(c: Chain, u: u64, top: u64) -> bool
+    requires { ⌜ (1 ≤ top) × (u + top ≤ 1000000000000) ⌝ }
+    ensures { λ r. ⌜ r ≡ reachedAt c u top ⌝ }
+{
+    if !is_span(timing::delay(c, Tick(u)), top) {
+        return false;
+    }
+    is_span(timing::age(c, Tick(u + top - 1)), top - 1)
+}
+
+// Make a table cut at p. Where anchor i, counted from 0, has the greatest latency, it is the delay at the anchor's start and one more than an age.
+pub fn greatest_reached(
+    c: Chain,
+    p: usize,
+    i: usize,
+    starts: &mut [u64],
+    latencies: &mut [u64],
+) -> bool
+    ensures { λ r. ⌜ r ≡ true ⌝ }
+{
+    let m = maker::make_table(c, p, starts, latencies);
+    let Made::Whole(f) = m else {
+        return true;
+    };
+    let v = figures::greatest_of(starts, latencies, f.anchors, f.hyperperiod);
+    let Greatest::Latency(top) = v else {
+        return false;
+    };
+    if f.anchors <= i {
+        return true;
+    }
+    if latencies[i] != top {
+        return true;
+    }
+    reached_at(c, starts[i], top)
 }

@@ -43,6 +43,15 @@ unfoldable pub select : (ℕ → Bool) → ℕ → ℕ → List ℕ
 select test s zero = []
 select test s (suc n) = put (test s) s (select test (suc s) n)
 
+pub select-length : (test : ℕ → Bool) (s n : ℕ) → length (select test s n) ≤ n
+unfolding select
+select-length test s zero = omega arith
+select-length test s (suc n) = go (test s) (select-length test (suc s) n)
+  where
+    go : (t : Bool) → length (select test (suc s) n) ≤ n → length (put t s (select test (suc s) n)) ≤ suc n
+    go true h = omega arith
+    go false h = omega arith
+
 pub keep-select : (test : ℕ → Bool) (m n : ℕ) → keep test (rangeFrom m n) ≡ select test m n
 unfolding keep rangeFrom select
 keep-select test m zero = refl
