@@ -4,14 +4,15 @@
  * All times are whole ticks; a tick is 1 microsecond. The calls keep nothing, allocate nothing and always return. They answer for any
  * values: none of the arguments has to be checked first.
  *
- * Lists and numbers are lent for the time of a call. A list is a pointer and the number of its entries; no call of this header writes to
- * one. A number that a call gives is lent as a pointer. No pointer may be null, also that of a list of 0 entries, and each must point to
+ * Lists and numbers are lent for the time of a call. A list is a pointer and the number of its entries; only mo_make_table writes to
+ * lists. A number that a call gives is lent as a pointer. No pointer may be null, also that of a list of 0 entries, and each must point to
  * as many entries as are named. The numbers lent for answers lie apart from each other and from the lists.
  *
  * Archives, each made by `rt staticlib NAME`; they can be linked together:
  *   libtable.a          mo_read_table
  *   libcapi_figures.a   mo_greatest, mo_low, mo_mean, mo_throughput, mo_exceedance
  *   libcapi_timing.a    mo_check, mo_warm_up, mo_delay, mo_age
+ *   libcapi_maker.a     mo_make_table
  */
 #ifndef MESHORCHARD_H
 #define MESHORCHARD_H
@@ -29,6 +30,9 @@ extern "C" {
 #define MO_TASK_OUTSIDE_LIMITS 5u      /* a period, duration or phase of the chain; the place is the task's place, from 1 */
 #define MO_HYPERPERIOD_TOO_LONG 7u     /* above 60,000,000 */
 #define MO_PLACES_OUTSIDE_LIMITS 8u    /* not 1 to 12, or the list of tasks does not hold them */
+#define MO_CUT_OUTSIDE_PLACES 9u       /* making: the place of the cut is not one of the chain */
+#define MO_LISTS_UNEQUAL 10u           /* making: the two lists have different lengths */
+#define MO_LISTS_TOO_SHORT 11u         /* making: the lists are shorter than the number of anchors */
 #define MO_TICK_TOO_EARLY 12u          /* reading a table: below the first start; a chain: below its first tick for the call */
 #define MO_TICK_TOO_LATE 13u           /* above MO_UPPER_TICK */
 #define MO_TABLE_NOT_WELL_FORMED 14u
@@ -119,7 +123,7 @@ uint64_t mo_exceedance(const uint64_t *starts, size_t starts_length,
  *   MO_PLACES_OUTSIDE_LIMITS   places is not 1 to 12, tasks_length is no multiple of 3, or it is below 3 * places;
  *   MO_TASK_OUTSIDE_LIMITS     T is not 1 to 1,000,000, D not 1 to 4,000,000 or F above 1,000,000; at the lowest such place, from 1;
  *   MO_HYPERPERIOD_TOO_LONG    the least common multiple of the periods at the places is above 60,000,000;
- * and mo_delay and mo_age after these
+ * mo_make_table goes on as it says, and mo_delay and mo_age after these with
  *   MO_TICK_TOO_EARLY          the tick is below the warm-up tick for mo_delay, below the write of the last warm-up job for mo_age;
  *   MO_TICK_TOO_LATE           the tick is above MO_UPPER_TICK.
  */
@@ -139,6 +143,22 @@ uint64_t mo_delay(const uint64_t *tasks, size_t tasks_length, size_t places, uin
 
 /* Ageing: how old at tick z the newest reading is that has come through the chain. */
 uint64_t mo_age(const uint64_t *tasks, size_t tasks_length, size_t places, uint64_t z, uint64_t *age);
+
+/*
+ * Making: the table of a chain cut at place p, p counted from 1. The anchors do not depend on p; the work does, and is least at the place
+ * with the longest period. figures becomes the anchor count g, the warm-up tick, the hyperperiod h and the number of partitions walked;
+ * the first g entries of the lists become the anchors' starts and latencies, and the others keep their content. The table is then read
+ * by mo_read_table with g and h: at every tick from the warm-up tick to MO_UPPER_TICK it gives the delay that mo_delay gives.
+ *
+ * Refuses, after the chain's own refusals, the first that applies:
+ *   MO_CUT_OUTSIDE_PLACES   p is 0 or above the places;
+ *   MO_LISTS_UNEQUAL        the lists have different lengths;
+ *   MO_LISTS_TOO_SHORT      the lists are shorter than g: they then hold the first anchors that fit, and figures is as in a success.
+ * Every other refusal leaves the lists as they were, with zeros in figures.
+ */
+uint64_t mo_make_table(const uint64_t *tasks, size_t tasks_length, size_t places, size_t p,
+                       uint64_t *starts, size_t starts_length,
+                       uint64_t *latencies, size_t latencies_length, uint64_t figures[4]);
 
 #ifdef __cplusplus
 }

@@ -1,0 +1,89 @@
+/*
+ * Making a table through the header, held to document 01's survey examples and refusals, and the made table read at ticks against the walk.
+ * tests/c/run builds and runs it.
+ */
+#include "meshorchard.h"
+
+#include "expect.h"
+
+/* What the lists and the figures hold before a making. */
+#define RUBBISH 77u
+
+/* Chain A: (4, 4, 0), (6, 6, 0). */
+static const uint64_t chain_a[6] = { 4, 4, 0, 6, 6, 0 };
+
+static uint64_t starts[4], latencies[4], figures[4];
+
+/* Makes chain A's table cut at p in the first `length` entries of the lists. */
+static uint64_t make(size_t p, size_t length)
+{
+    for (size_t i = 0; i < 4; i++)
+        starts[i] = latencies[i] = figures[i] = RUBBISH;
+    return mo_make_table(chain_a, 6, 2, p, starts, length, latencies, length, figures);
+}
+
+static void expect_figures(uint64_t g, uint64_t tick, uint64_t h, uint64_t walked)
+{
+    expect("  anchors", figures[0], g);
+    expect("  warm-up tick", figures[1], tick);
+    expect("  hyperperiod", figures[2], h);
+    expect("  walked", figures[3], walked);
+}
+
+static void expect_anchor(size_t i, uint64_t start, uint64_t latency)
+{
+    expect("  start", starts[i], start);
+    expect("  latency", latencies[i], latency);
+}
+
+static void check_making(void)
+{
+    expect("A cut at 1", make(1, 3), 0);
+    expect_figures(2, 0, 12, 3);
+    expect_anchor(0, 0, 18);
+    expect_anchor(1, 8, 16);
+    expect_anchor(2, RUBBISH, RUBBISH);
+    expect("A cut at 2", make(2, 2), 0);
+    expect_figures(2, 0, 12, 2);
+    expect_anchor(0, 0, 18);
+    expect_anchor(1, 8, 16);
+}
+
+static void check_refusals(void)
+{
+    expect("lists too short", make(2, 1), MO_LISTS_TOO_SHORT);
+    expect_figures(2, 0, 12, 2);
+    expect_anchor(0, 0, 18);
+    expect_anchor(1, RUBBISH, RUBBISH);
+    expect("empty lists", make(1, 0), MO_LISTS_TOO_SHORT);
+    expect_figures(2, 0, 12, 3);
+    expect("place 0", make(0, 3), MO_CUT_OUTSIDE_PLACES);
+    expect_figures(0, 0, 0, 0);
+    expect_anchor(0, RUBBISH, RUBBISH);
+    expect("place 3", make(3, 3), MO_CUT_OUTSIDE_PLACES);
+    expect("unequal lists", mo_make_table(chain_a, 6, 2, 1, starts, 3, latencies, 2, figures), MO_LISTS_UNEQUAL);
+    expect("no places", mo_make_table(chain_a, 6, 0, 1, starts, 3, latencies, 3, figures), MO_PLACES_OUTSIDE_LIMITS);
+    expect("five numbers", mo_make_table(chain_a, 5, 1, 1, starts, 3, latencies, 3, figures), MO_PLACES_OUTSIDE_LIMITS);
+}
+
+/* The table and the walk agree. */
+static void check_agreement(void)
+{
+    static const uint64_t ticks[6] = { 0, 7, 8, 11, 12, MO_UPPER_TICK };
+
+    make(1, 4);
+    for (size_t i = 0; i < 6; i++) {
+        uint64_t delay = RUBBISH;
+
+        expect("walking", mo_delay(chain_a, 6, 2, ticks[i], &delay), 0);
+        expect("  and reading", mo_read_table(starts, 4, latencies, 4, figures[0], figures[2], ticks[i]), delay);
+    }
+}
+
+int main(void)
+{
+    check_making();
+    check_refusals();
+    check_agreement();
+    return counted();
+}
