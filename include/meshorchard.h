@@ -6,7 +6,7 @@
  *
  * Lists and numbers are lent for the time of a call. A list is a pointer and the number of its entries; only mo_make_table writes to
  * lists. A number that a call gives is lent as a pointer. No pointer may be null, also that of a list of 0 entries, and each must point to
- * as many entries as are named. The numbers lent for answers lie apart from each other and from the lists.
+ * as many entries as are named. The numbers and lists that a call writes lie apart from each other and from all else that is lent to it.
  *
  * Archives, each made by `rt staticlib NAME`; they can be linked together:
  *   libtable.a          mo_read_table
@@ -39,7 +39,8 @@ extern "C" {
 
 /*
  * Every call but mo_read_table answers a code: 0 for a success, else a refusal's number and 256 times its place. The place is 0 but for
- * MO_TASK_OUTSIDE_LIMITS. Each number lent to the call is written: with what the call gives, and with 0 in a refusal.
+ * MO_TASK_OUTSIDE_LIMITS. Each number lent to the call is written: with what the call gives, and with 0 in a refusal
+ * (MO_LISTS_TOO_SHORT of mo_make_table gives its numbers).
  */
 #define MO_NUMBER(code) ((code) % 256u)
 #define MO_PLACE(code) ((code) / 256u)

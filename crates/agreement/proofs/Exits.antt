@@ -32,14 +32,18 @@ use Rattle.maker.specs.declared.Figures.{Figures}
 use Rattle.maker.specs.declared.Made.{Made}
 use Rattle.maker.specs.declared.Made.the-variants.{Whole}
 use Rattle.maker.specs.Making.{Makes}
-use Rattle.agreement.specs.Compare.{sameDelay, sameUpTo, sameEntries, sameAnchors, spanAtMost, spanIs, reachedAt}
+use Rattle.agreement.specs.Compare.{sameDelay, sameUpTo, sameEntries, sameAnchors, spanAtMost, spanIs, reachedAt, Agrees}
 use Rattle.agreement.specs.ReadsAsWalk.{canonical-few}
 use Rattle.agreement.specs.MadeTable.{done, starts-length, latencies-length}
 use Rattle.agreement.specs.Reached.{Reached, anchor-reaches}
-use Rattle.agreement.specs.Agreement.{SameDelay, SameAnchors, SameGreatest, table-is-walk, cuts-agree, well-formed, greatest-is-delay-and-age}
+use Rattle.agreement.specs.Agreement.{SameDelay, SameAnchors, SameGreatest, table-is-walk, cuts-agree, greatest-is-delay-and-age}
 
 pub both-ticks : (w : Span) (x : Reading) (a b : ℕ) → w ≡ span.Ticks a → x ≡ read.Delay b → eqb a b ≡ sameDelay w x
 both-ticks w x a b e f = sym (ap (λ (y : Span). sameDelay y x) e ∙ ap (sameDelay (span.Ticks a)) f)
+
+-- the lists are as making leaves them
+pub agreeing : (c : Chain) (p : ℕ) (s v s′ v′ : List ℕ) (m : Made) (r : Bool) → Makes c p s v s′ v′ m → r ≡ true → Agrees c p s v s′ v′ r
+agreeing c p s v s′ v′ m r makes e = record { agrees = e; leaves-starts = makes .leaves-starts; leaves-latencies = makes .leaves-latencies }
 
 -- ---- the first n entries of two lists
 
@@ -158,8 +162,7 @@ module _ (c : Chain) (twelve : length (c .tasks) ≡ 12) (p : ℕ) (s v s′ v�
   agreed = greatest-is-delay-and-age c twelve p s v s′ v′ f made
 
   greatest-is : greatestOf s′ v′ (f .anchors) (f .hyperperiod) ≡ top.Latency (agreed .latency)
-  unfolding greatestOf
-  greatest-is = rw (well-formed c twelve p s v s′ v′ f made) (ap top.Latency (agreed .greatest-latency))
+  greatest-is = agreed .answered
 
   pub greatest-there : (g : Greatest) (x : Refusal) → g ≡ greatestOf s′ v′ (f .anchors) (f .hyperperiod) → g ≡ top.Refused x → ⊥
   greatest-there g x e d = let h = sym (e ∙ greatest-is) ∙ d in let z : _≡_ {A = ℕ} 0 1 = cc in omega arith

@@ -1,4 +1,4 @@
--- The mission's third demand, sentence by sentence, about every chain whose array has its twelve entries. A table is completed where making is
+-- The third demand, sentence by sentence, about every chain whose array has its twelve entries. A table is completed where making is
 -- not refused; it is read with the g and H that making answered and the lists as making left them, whatever they held before and hold from g on.
 use Prim.Native.Nat.{ℕ, zero, suc, _+_, _≤_, _<_}
 use native.Mathlib.Omega.{arith}
@@ -14,13 +14,15 @@ use Rattle.chain.specs.Hyperperiod.{hyperOf}
 use Rattle.timing.specs.declared.Span.the-variants.{Ticks}
 use Rattle.timing.specs.WarmUp.{warmTick}
 use Rattle.timing.specs.Delay.{delayAt, firstAged, ageAt}
-use Rattle.timing.specs.Answers.{upperTick, delayOf, spanAfter}
+use Rattle.timing.specs.Answers.{upperTick, delayOf, ageOf, spanAfter}
 use Rattle.table.specs.Anchors.{Anchor, anchors}
 use Rattle.table.specs.declared.Reading.the-variants.{Delay}
 use Rattle.table.specs.WellFormed.{wellFormed}
 use Rattle.table.specs.Reading as table
 use Rattle.table.specs.Reading.{reading}
 use Rattle.table.specs.Figures.{greatest}
+use Rattle.figures.specs.declared.Greatest.the-variants.{Latency}
+use Rattle.figures.specs.Figures.{greatestOf}
 use Rattle.partition.specs.CutFree.{canonical}
 use Rattle.maker.specs.declared.Figures.{Figures}
 use Rattle.maker.specs.declared.Made.the-variants.{Whole}
@@ -43,9 +45,13 @@ pub record SameAnchors (starts latencies starts″ latencies″ : List ℕ) (f f
   pub latency : (i : ℕ) → i < f .anchors → getD latencies i 0 ≡ getD latencies″ i 0
 
 -- "For every completed table: greatest latency = greatest delay at any of these ticks = 1 + greatest age at any tick that has an age."
+-- The calls answer the latency, `delayAt` and `ageAt`: `answered`, `walked` and `aged`.
 pub record SameGreatest (c : Chain) (starts latencies : List ℕ) (f : Figures) : Type 0 where
   pub latency : ℕ
   pub greatest-latency : greatest (anchors starts latencies (f .anchors)) ≡ latency
+  pub answered : greatestOf starts latencies (f .anchors) (f .hyperperiod) ≡ Latency latency
+  pub walked : (t : ℕ) → f .tick .0 ≤ t → t ≤ upperTick → delayOf c t ≡ Ticks (delayAt (tasksOf c) t)
+  pub aged : (z : ℕ) → firstAged (tasksOf c) ≤ z → z ≤ upperTick → ageOf c z ≡ Ticks (ageAt (tasksOf c) z)
   pub greatest-delay : GreatestWithin (delayAt (tasksOf c)) (f .tick .0) upperTick latency
   pub greatest-age : GreatestWithin (λ z. suc (ageAt (tasksOf c) z)) (firstAged (tasksOf c)) upperTick latency
 
@@ -77,6 +83,14 @@ module _ (c : Chain) (twelve : length (c .tasks) ≡ 12) where
         )
         (ap Delay (table-walk (tasksOf c) (held .sound) t (omega (arith, held .tick))))
 
+    ages : (z : ℕ) → firstAged (tasksOf c) ≤ z → z ≤ upperTick → ageOf c z ≡ Ticks (ageAt (tasksOf c) z)
+    unfolding spanAfter
+    ages z low high = rw (held .whole, le-ltb z (firstAged (tasksOf c)) low, le-ltb upperTick z high)
+
+    answers : greatestOf s′ v′ (f .anchors) (f .hyperperiod) ≡ Latency (greatest (canonical (tasksOf c) (hyperOf (tasksOf c))))
+    unfolding greatestOf
+    answers = rw (made-well-formed c twelve p s v s′ v′ f makes) (ap (λ (l : List Anchor). Latency (greatest l)) (made-anchors c twelve p s v s′ v′ f makes))
+
     -- A completed table is well-formed.
     pub well-formed : wellFormed s′ v′ (f .anchors) (f .hyperperiod) ≡ true
     well-formed = made-well-formed c twelve p s v s′ v′ f makes
@@ -88,6 +102,9 @@ module _ (c : Chain) (twelve : length (c .tasks) ≡ 12) where
     greatest-is-delay-and-age = record {
       latency = greatest (canonical (tasksOf c) (hyperOf (tasksOf c)));
       greatest-latency = ap greatest (made-anchors c twelve p s v s′ v′ f makes);
+      answered = answers;
+      walked = walks;
+      aged = ages;
       greatest-delay = subst (λ (x : ℕ). GreatestWithin (delayAt (tasksOf c)) x upperTick (greatest (canonical (tasksOf c) (hyperOf (tasksOf c))))) (sym (held .tick)) (greatest-delay-is (tasksOf c) (held .sound) (held .small));
       greatest-age = greatest-age-is (tasksOf c) (held .sound) (held .small);
     }

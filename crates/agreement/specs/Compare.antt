@@ -2,12 +2,14 @@
 use Prim.Native.Nat.{ℕ, zero, suc, _+_, _-_}
 use mathlib.Core.Bool.{Bool, true, false, _&&_}
 use mathlib.Core.List.{List}
+use mathlib.Core.Path.{_≡_}
 use lib.Dec.{eqb, leb}
 use lib.ListN.{length, getD}
 use Rattle.chain.specs.declared.Chain.{Chain}
 use Rattle.timing.specs.Answers.{delayOf, ageOf}
 use Rattle.timing.specs.declared.Span.{Span}
 use Rattle.timing.specs.declared.Span.the-variants as span
+use Rattle.maker.specs.Making.{writtenOf, startsOf, latenciesOf, overlay}
 use Rattle.table.specs.declared.Reading.{Reading}
 use Rattle.table.specs.declared.Reading.the-variants as reading
 
@@ -42,3 +44,9 @@ spanIs (span.Refused r) ticks = false
 -- The delay at u is `top`, and the age at the tick before u + top is one less.
 abbrev pub reachedAt : Chain → ℕ → ℕ → Bool
 reachedAt c u top = spanIs (delayOf c u) top && spanIs (ageOf c (u + top - 1)) (top - 1)
+
+-- The promise of a function that makes a table at p: its answer is `true`, and it leaves the lists as making does.
+pub record Agrees (c : Chain) (p : ℕ) (starts latencies starts′ latencies′ : List ℕ) (r : Bool) : Type 0 where
+  pub agrees : r ≡ true
+  pub leaves-starts : starts′ ≡ overlay (startsOf (writtenOf c p (length starts) (length latencies))) starts
+  pub leaves-latencies : latencies′ ≡ overlay (latenciesOf (writtenOf c p (length starts) (length latencies))) latencies

@@ -4,14 +4,13 @@ use native.Mathlib.Omega.{arith}
 use mathlib.Core.Path.{_≡_, refl, sym, ap, _∙_}
 use mathlib.Core.List.{List}
 use lib.ListN.{length, getD}
-use borrow.Author.Tests.{le-ltb}
 use Rattle.chain.specs.declared.Chain.{Chain}
 use Rattle.chain.specs.Chains.{tasksOf}
 use Rattle.chain.specs.Hyperperiod.{hyperOf}
 use Rattle.timing.specs.declared.Span.the-variants.{Ticks}
 use Rattle.timing.specs.WarmUp.{warmTick}
 use Rattle.timing.specs.Delay.{delayAt, firstAged, ageAt}
-use Rattle.timing.specs.Answers.{upperTick, delayOf, ageOf, spanAfter}
+use Rattle.timing.specs.Answers.{upperTick, delayOf, ageOf}
 use Rattle.table.specs.Anchors.{Anchor, anchors, firstStart}
 use Rattle.table.specs.WellFormed.{WellFormed}
 use Rattle.table.specs.Reading as table
@@ -26,7 +25,7 @@ use Rattle.maker.specs.Making.{Makes}
 use Rattle.agreement.specs.ReadsAsWalk.{table-walk}
 use Rattle.agreement.specs.GreatestAge.{warm-small, peak-age, peak-low, top-fits}
 use Rattle.agreement.specs.MadeTable.{Completed, made-anchors, made-first}
-use Rattle.agreement.specs.Agreement.{held, walks, well-formed}
+use Rattle.agreement.specs.Agreement.{held, walks, well-formed, greatest-is-delay-and-age}
 
 pub record Reached (c : Chain) (u top : ℕ) : Type 0 where
   pub some : 1 ≤ top
@@ -48,8 +47,7 @@ module _ (c : Chain) (twelve : length (c .tasks) ≡ 12) (p : ℕ) (s v s′ v�
   first = sym (first-start s′ v′ (f .anchors) (f .hyperperiod) formed) ∙ ap firstStart same ∙ made-first c twelve p s v s′ v′ f makes
 
   ages : (z : ℕ) → firstAged (tasksOf c) ≤ z → z ≤ upperTick → ageOf c z ≡ Ticks (ageAt (tasksOf c) z)
-  unfolding spanAfter
-  ages z low high = rw (k .whole, le-ltb z (firstAged (tasksOf c)) low, le-ltb upperTick z high)
+  ages = greatest-is-delay-and-age c twelve p s v s′ v′ f makes .aged
 
   module _ (i : ℕ) (h : i < f .anchors) where
     low : warmTick (tasksOf c) ≤ getD s′ i 0

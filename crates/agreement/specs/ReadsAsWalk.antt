@@ -23,40 +23,40 @@ use Rattle.table.specs.Reading as table
 use Rattle.table.specs.Reading.{lastAt, gives}
 use Rattle.partition.specs.Lists.{put}
 use Rattle.partition.specs.Selections.{differ-false, select, select-length}
-use Rattle.partition.specs.CanonicalAnchors.{news, anchorAt, canon}
+use Rattle.partition.specs.CanonicalAnchors.{endsLater, anchorAt, canonicalFrom}
 use Rattle.partition.specs.CutFree.{endWalk, canonical}
 use Rattle.agreement.specs.Jobs.{hyper-pos, hyper-first, some-job, first-new}
 
-module _ (w rd : ℕ → ℕ) (rise : (i j : ℕ) → i ≤ j → rd i ≤ rd j) where
-  -- anchors that start past the tick do not speak
-  late : (n y u : ℕ) (x : Anchor) → u < rd y → lastAt u x (map (anchorAt w rd) (select (news w rd) y n)) ≡ x
+module _ (w readAt : ℕ → ℕ) (rise : (i j : ℕ) → i ≤ j → readAt i ≤ readAt j) where
+  -- anchors that start past the tick are not taken
+  late : (n y u : ℕ) (x : Anchor) → u < readAt y → lastAt u x (map (anchorAt w readAt) (select (endsLater w readAt) y n)) ≡ x
   unfolding lastAt select
   late zero y u x h = refl
-  late (suc n) y u x h = go (news w rd y) (late n (suc y) u x (omega (arith, rise y (suc y) (omega arith))))
+  late (suc n) y u x h = go (endsLater w readAt y) (late n (suc y) u x (omega (arith, rise y (suc y) (omega arith))))
     where
-      go : (t : Bool) → lastAt u x (map (anchorAt w rd) (select (news w rd) (suc y) n)) ≡ x
-          → lastAt u x (map (anchorAt w rd) (put t y (select (news w rd) (suc y) n))) ≡ x
-      go true ih = rw (lt-leb (rd y) u h, lastAt) ih
+      go : (t : Bool) → lastAt u x (map (anchorAt w readAt) (select (endsLater w readAt) (suc y) n)) ≡ x
+          → lastAt u x (map (anchorAt w readAt) (put t y (select (endsLater w readAt) (suc y) n))) ≡ x
+      go true ih = rw (lt-leb (readAt y) u h, lastAt) ih
       go false ih = ih
 
   -- J is the last job that reads at or before u; between the last anchor's job x and J no walk ends later
-  found : (k n x y J u : ℕ) → y + k ≡ suc J → w y ≡ w (suc x) → rd x ≤ u → rd J ≤ u → u < rd (suc J)
-      → gives u (lastAt u (anchorAt w rd x) (map (anchorAt w rd) (select (news w rd) y (k + n)))) ≡ w (suc J) - u
+  found : (k n x y J u : ℕ) → y + k ≡ suc J → w y ≡ w (suc x) → readAt x ≤ u → readAt J ≤ u → u < readAt (suc J)
+      → gives u (lastAt u (anchorAt w readAt x) (map (anchorAt w readAt) (select (endsLater w readAt) y (k + n)))) ≡ w (suc J) - u
   unfolding lastAt select
   found zero n x y J u hy hw hx hJ hu =
       let e : y ≡ suc J = omega arith in
-      rw (zero-add, late n y u (anchorAt w rd x) (rw e hu)) (omega (arith, ap w e))
+      rw (zero-add, late n y u (anchorAt w readAt x) (rw e hu)) (omega (arith, ap w e))
   found (suc k) n x y J u hy hw hx hJ hu =
-      rw suc-add (go (news w rd y) refl (found k n y (suc y) J u (omega arith) refl ry hJ hu) (λ h. found k n x (suc y) J u (omega arith) (h ∙ hw) hx hJ hu))
+      rw suc-add (go (endsLater w readAt y) refl (found k n y (suc y) J u (omega arith) refl ry hJ hu) (λ h. found k n x (suc y) J u (omega arith) (h ∙ hw) hx hJ hu))
     where
-      ry : rd y ≤ u
+      ry : readAt y ≤ u
       ry = omega (arith, rise y J (omega arith))
 
-      go : (t : Bool) → news w rd y ≡ t
-          → gives u (lastAt u (anchorAt w rd y) (map (anchorAt w rd) (select (news w rd) (suc y) (k + n)))) ≡ w (suc J) - u
-          → (w (suc y) ≡ w y → gives u (lastAt u (anchorAt w rd x) (map (anchorAt w rd) (select (news w rd) (suc y) (k + n)))) ≡ w (suc J) - u)
-          → gives u (lastAt u (anchorAt w rd x) (map (anchorAt w rd) (put t y (select (news w rd) (suc y) (k + n))))) ≡ w (suc J) - u
-      go true e p q = rw (le-leb (rd y) u ry, lastAt) p
+      go : (t : Bool) → endsLater w readAt y ≡ t
+          → gives u (lastAt u (anchorAt w readAt y) (map (anchorAt w readAt) (select (endsLater w readAt) (suc y) (k + n)))) ≡ w (suc J) - u
+          → (w (suc y) ≡ w y → gives u (lastAt u (anchorAt w readAt x) (map (anchorAt w readAt) (select (endsLater w readAt) (suc y) (k + n)))) ≡ w (suc J) - u)
+          → gives u (lastAt u (anchorAt w readAt x) (map (anchorAt w readAt) (put t y (select (endsLater w readAt) (suc y) (k + n))))) ≡ w (suc J) - u
+      go true e p q = rw (le-leb (readAt y) u ry, lastAt) p
       go false e p q = q (differ-false (w (suc y)) (w y) e)
 
 module _ (l : List Task) (ok : Sound l) where
@@ -65,13 +65,13 @@ module _ (l : List Task) (ok : Sound l) where
   firstAnchor = anchorAt (endWalk l) (readOf (at l 0)) (warmAt l 0)
 
   abbrev pub otherAnchors : List Anchor
-  otherAnchors = map (anchorAt (endWalk l) (readOf (at l 0))) (select (news (endWalk l) (readOf (at l 0))) (suc (warmAt l 0)) (hyperOf l / at l 0 .period - 1))
+  otherAnchors = map (anchorAt (endWalk l) (readOf (at l 0))) (select (endsLater (endWalk l) (readOf (at l 0))) (suc (warmAt l 0)) (hyperOf l / at l 0 .period - 1))
 
   pub canonical-cons : canonical l (hyperOf l) ≡ firstAnchor ∷ otherAnchors
-  unfolding canonical canon select
+  unfolding canonical canonicalFrom select
   canonical-cons =
       let e : hyperOf l / at l 0 .period ≡ suc (hyperOf l / at l 0 .period - 1) = omega (arith, some-job l ok) in
-      ap (λ (n : ℕ). map (anchorAt (endWalk l) (readOf (at l 0))) (select (news (endWalk l) (readOf (at l 0))) (warmAt l 0) n)) e ∙ rw (first-new l ok)
+      ap (λ (n : ℕ). map (anchorAt (endWalk l) (readOf (at l 0))) (select (endsLater (endWalk l) (readOf (at l 0))) (warmAt l 0) n)) e ∙ rw (first-new l ok)
 
   -- at a tick of the first hyperperiod, J being the last job that reads at or before it
   read-job : (u J : ℕ) → earliestAfter (at l 0) u ≡ suc J → readOf (at l 0) (warmAt l 0) ≤ u → u < readOf (at l 0) (warmAt l 0) + hyperOf l
@@ -90,7 +90,7 @@ module _ (l : List Task) (ok : Sound l) where
         | no k ↦ omega (arith, read-mono a (W + q) J (omega arith), hyper-first l ok)
       ] in
       let s : q - 1 ≡ (J - W) + (q - 1 - (J - W)) = omega arith in
-      ap (λ (x : ℕ). gives u (lastAt u firstAnchor (map (anchorAt (endWalk l) (readOf a)) (select (news (endWalk l) (readOf a)) (suc W) x)))) s
+      ap (λ (x : ℕ). gives u (lastAt u firstAnchor (map (anchorAt (endWalk l) (readOf a)) (select (endsLater (endWalk l) (readOf a)) (suc W) x)))) s
       ∙ found (endWalk l) (readOf a) (read-mono a) (J - W) (q - 1 - (J - W)) W (suc W) J u (omega arith) refl lo here past
       ∙ ap (λ (x : ℕ). endWalk l x - u) (sym n)
 
@@ -110,8 +110,8 @@ module _ (l : List Task) (ok : Sound l) where
 
   -- There are no more anchors than jobs of the first place in a hyperperiod.
   pub canonical-few : length (canonical l (hyperOf l)) ≤ hyperOf l
-  unfolding canonical canon
+  unfolding canonical canonicalFrom
   canonical-few =
       let q : ℕ = hyperOf l / at l 0 .period in
-      let chosen = select (news (endWalk l) (readOf (at l 0))) (warmAt l 0) q in
-      omega (arith, length-map chosen (anchorAt (endWalk l) (readOf (at l 0))), select-length (news (endWalk l) (readOf (at l 0))) (warmAt l 0) q, div-le-self (hyperOf l) (at l 0 .period))
+      let chosen = select (endsLater (endWalk l) (readOf (at l 0))) (warmAt l 0) q in
+      omega (arith, length-map chosen (anchorAt (endWalk l) (readOf (at l 0))), select-length (endsLater (endWalk l) (readOf (at l 0))) (warmAt l 0) q, div-le-self (hyperOf l) (at l 0 .period))

@@ -16,7 +16,7 @@ use Rattle.table.specs.WellFormed.{latencyLimit}
 use Rattle.table.specs.Segments.{Spaced, Formed}
 use Rattle.partition.specs.Lists.{put}
 use Rattle.partition.specs.Selections.{differ-false, select}
-use Rattle.partition.specs.CanonicalAnchors.{news, anchorAt}
+use Rattle.partition.specs.CanonicalAnchors.{endsLater, anchorAt}
 use Rattle.partition.specs.CutFree.{endWalk, canonical}
 use Rattle.agreement.specs.Jobs.{hyper-pos, hyper-first, some-job, end-after, latency-fits}
 use Rattle.agreement.specs.ReadsAsWalk.{firstAnchor, otherAnchors, canonical-cons}
@@ -24,21 +24,21 @@ use Rattle.agreement.specs.ReadsAsWalk.{firstAnchor, otherAnchors, canon
 pub read-less : (a : Task) → 1 ≤ a .period → (i j : ℕ) → i < j → readOf a i < readOf a j
 read-less a h i j l = omega (arith, mul-le-mul-right (a .period) l)
 
-module _ (w rd : ℕ → ℕ) (W : ℕ) (rise : (i j : ℕ) → i < j → rd i < rd j) (after : (j : ℕ) → rd j < w j)
-    (fits : (j : ℕ) → W ≤ j → w (suc j) - rd j ≤ latencyLimit) where
-  spaced : (n s x : ℕ) → W ≤ x → x < s → w s ≡ w (suc x) → Spaced (rd (s + n)) (anchorAt w rd x ∷ map (anchorAt w rd) (select (news w rd) s n))
+module _ (w readAt : ℕ → ℕ) (W : ℕ) (rise : (i j : ℕ) → i < j → readAt i < readAt j) (after : (j : ℕ) → readAt j < w j)
+    (fits : (j : ℕ) → W ≤ j → w (suc j) - readAt j ≤ latencyLimit) where
+  spaced : (n s x : ℕ) → W ≤ x → x < s → w s ≡ w (suc x) → Spaced (readAt (s + n)) (anchorAt w readAt x ∷ map (anchorAt w readAt) (select (endsLater w readAt) s n))
   unfolding select
   spaced zero s x h l e =
       let z : s + 0 ≡ s = omega arith in
       rw z (rise x s l, fits x h, omega (arith, after s, rise x s l), tt)
   spaced (suc n) s x h l e =
       let z : s + suc n ≡ suc s + n = omega arith in
-      rw z (go (news w rd s) refl (spaced n (suc s) s (omega arith) (omega arith) refl) (λ k. spaced n (suc s) x h (omega arith) (k ∙ e)))
+      rw z (go (endsLater w readAt s) refl (spaced n (suc s) s (omega arith) (omega arith) refl) (λ k. spaced n (suc s) x h (omega arith) (k ∙ e)))
     where
-      go : (t : Bool) → news w rd s ≡ t
-          → Spaced (rd (suc s + n)) (anchorAt w rd s ∷ map (anchorAt w rd) (select (news w rd) (suc s) n))
-          → (w (suc s) ≡ w s → Spaced (rd (suc s + n)) (anchorAt w rd x ∷ map (anchorAt w rd) (select (news w rd) (suc s) n)))
-          → Spaced (rd (suc s + n)) (anchorAt w rd x ∷ map (anchorAt w rd) (put t s (select (news w rd) (suc s) n)))
+      go : (t : Bool) → endsLater w readAt s ≡ t
+          → Spaced (readAt (suc s + n)) (anchorAt w readAt s ∷ map (anchorAt w readAt) (select (endsLater w readAt) (suc s) n))
+          → (w (suc s) ≡ w s → Spaced (readAt (suc s + n)) (anchorAt w readAt x ∷ map (anchorAt w readAt) (select (endsLater w readAt) (suc s) n)))
+          → Spaced (readAt (suc s + n)) (anchorAt w readAt x ∷ map (anchorAt w readAt) (put t s (select (endsLater w readAt) (suc s) n)))
       go true k p q = (rise x s l, fits x h, omega (arith, after s, rise x s l), p)
       go false k p q = q (differ-false (w (suc s)) (w s) k)
 

@@ -1,5 +1,5 @@
 // The third demand at the level of the calls. Each function makes tables and answers whether they agree with the other calls;
-// its only promise is that the answer is `true`, for any chain, places, ticks and lists. Where a table is not completed, or a tick lies outside the range, there is nothing to compare.
+// it promises that the answer is `true`, for any chain, places, ticks and lists, and that the lists are as making leaves them. Where a table is not completed, or a tick lies outside the range, there is nothing to compare.
 use chain::Chain;
 use figures::Greatest;
 use maker::Made;
@@ -7,9 +7,8 @@ use table::Reading;
 use task::Tick;
 use timing::Span;
 ghost use mathlib.Core.Path.{_≡_};
-ghost use mathlib.Core.Bool.{true};
 ghost use Prim.Native.Nat.{_+_, _≤_, _<_};
-ghost use Rattle.agreement.specs.Compare.{sameDelay, sameEntries, sameAnchors, spanAtMost, spanIs, reachedAt};
+ghost use Rattle.agreement.specs.Compare.{sameDelay, sameEntries, sameAnchors, spanAtMost, spanIs, reachedAt, Agrees};
 
 // Whether a walked delay and a delay read are the same; false where one is refused.
 fn same_delay(walked: Span, read: Reading) -> bool
@@ -26,7 +25,7 @@ fn same_delay(walked: Span, read: Reading) -> bool
 
 // Make a table cut at p, then read it and walk at tick t.
 pub fn table_is_walk(c: Chain, p: usize, t: Tick, starts: &mut [u64], latencies: &mut [u64]) -> bool
-    ensures { λ r. ⌜ r ≡ true ⌝ }
+    ensures { λ r. ⌜ Agrees c p (now (starts .entry)) (now (latencies .entry)) (now (starts .exit)) (now (latencies .exit)) r ⌝ }
 {
     let m = maker::make_table(c, p, starts, latencies);
     match m {
@@ -102,7 +101,7 @@ pub fn cuts_agree(
     other_starts: &mut [u64],
     other_latencies: &mut [u64],
 ) -> bool
-    ensures { λ r. ⌜ r ≡ true ⌝ }
+    ensures { λ r. ⌜ (Agrees c p (now (starts .entry)) (now (latencies .entry)) (now (starts .exit)) (now (latencies .exit)) r) × (Agrees c q (now («other_starts» .entry)) (now («other_latencies» .entry)) (now («other_starts» .exit)) (now («other_latencies» .exit)) r) ⌝ }
 {
     let m = maker::make_table(c, p, starts, latencies);
     let k = maker::make_table(c, q, other_starts, other_latencies);
@@ -147,7 +146,7 @@ pub fn greatest_not_exceeded(
     starts: &mut [u64],
     latencies: &mut [u64],
 ) -> bool
-    ensures { λ r. ⌜ r ≡ true ⌝ }
+    ensures { λ r. ⌜ Agrees c p (now (starts .entry)) (now (latencies .entry)) (now (starts .exit)) (now (latencies .exit)) r ⌝ }
 {
     let m = maker::make_table(c, p, starts, latencies);
     let Made::Whole(f) = m else {
@@ -192,7 +191,7 @@ pub fn greatest_reached(
     starts: &mut [u64],
     latencies: &mut [u64],
 ) -> bool
-    ensures { λ r. ⌜ r ≡ true ⌝ }
+    ensures { λ r. ⌜ Agrees c p (now (starts .entry)) (now (latencies .entry)) (now (starts .exit)) (now (latencies .exit)) r ⌝ }
 {
     let m = maker::make_table(c, p, starts, latencies);
     let Made::Whole(f) = m else {

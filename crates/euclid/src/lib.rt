@@ -10,7 +10,7 @@ pub fn gcd(a: u64, b: u64) -> u64
     if b == 0 { a } else { gcd(b, a % b) }
 }
 
-// The least common multiple of two numbers whose product fits.
+// The least common multiple of two numbers whose product fits, for the crates above.
 pub fn lcm(a: u64, b: u64) -> u64
     requires { ⌜ (1 ≤ a) × (a * b ≤ 1000000000000000000) ⌝ }
     ensures { λ r. ⌜ r ≡ lcmOf a b ⌝ }

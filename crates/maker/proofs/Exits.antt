@@ -26,7 +26,7 @@ use Rattle.maker.specs.declared.Figures.{Figures}
 use Rattle.maker.specs.declared.Made.{Made}
 use Rattle.maker.specs.declared.Made.the-variants.{Whole, Short, Refused}
 use Rattle.maker.specs.Turn.{Filled}
-use Rattle.maker.specs.Making.{afterChecks, judged, figuresOf, madeAfter, writtenAfter, startsOf, latenciesOf, overlay, Makes}
+use Rattle.maker.specs.Making.{afterChecks, judged, figuresOf, madeAfter, writtenAfter, told, toldWith, toldAfter, startsOf, latenciesOf, overlay, Makes}
 use Rattle.maker.proofs.Lists.{sets-overlay}
 
 module _ (h places p a b : ℕ) where
@@ -76,11 +76,21 @@ range-fits l ok p h g s =
     let w = ok .each p g in
     omega (arith, warm-range l ok p g, div-mul-le-self h (at l p .period), w .period-max, w .duration-max)
 
+-- an answer tells its number, place and figures
+tells-so : (c : Chain) (p a : ℕ) (v : Verdict) (r : Made) → r ≡ madeAfter c p a v → told r ≡ toldAfter c p a v
+unfolding madeAfter toldAfter
+tells-so c p a (verdict.Refused x) r e = ap told e
+tells-so c p a (verdict.Accepted h) r e = ap told e ∙ go (leb (length (anchorsOf (tasksOf c) (p - 1) h)) a)
+  where
+    go : (t : Bool) → told (cond t (Whole (figuresOf c p h)) (Short (figuresOf c p h))) ≡ toldWith (cond t 0 11) (figuresOf c p h)
+    go true = refl
+    go false = refl
+
 module _ (c : Chain) (p : ℕ) (s l : List ℕ) where
   -- the contract from the verdict
   finish : (v : Verdict) (r : Made) (s′ l′ : List ℕ) → judged c p (length s) (length l) ≡ v → r ≡ madeAfter c p (length s) v
       → s′ ≡ overlay (startsOf (writtenAfter c p v)) s → l′ ≡ overlay (latenciesOf (writtenAfter c p v)) l → Makes c p s l s′ l′ r
-  finish v r s′ l′ e a f g = record { answer = rw e a; leaves-starts = rw e f; leaves-latencies = rw e g }
+  finish v r s′ l′ e a f g = record { answer = rw e a; tells = rw e (tells-so c p (length s) v r a); leaves-starts = rw e f; leaves-latencies = rw e g }
 
   pub made-refused : (r : Refusal) → judged c p (length s) (length l) ≡ verdict.Refused r → Makes c p s l s l (Refused r)
   unfolding madeAfter writtenAfter

@@ -65,12 +65,6 @@ latenciesOf = map (λ (x : Anchor). x .latency)
 abbrev pub overlay : List ℕ → List ℕ → List ℕ
 overlay xs ys = take (length ys) xs ++ drop (length xs) ys
 
--- Making, given the lists' contents before and after.
-pub record Makes (c : Chain) (p : ℕ) (starts latencies starts′ latencies′ : List ℕ) (r : Made) : Type 0 where
-  pub answer : r ≡ madeOf c p (length starts) (length latencies)
-  pub leaves-starts : starts′ ≡ overlay (startsOf (writtenOf c p (length starts) (length latencies))) starts
-  pub leaves-latencies : latencies′ ≡ overlay (latenciesOf (writtenOf c p (length starts) (length latencies))) latencies
-
 -- Document 01's number, place and figures of each answer: number 0 is a success, and 11 has the figures of one.
 pub record Told : Type 0 where
   pub number : ℕ
@@ -87,3 +81,15 @@ abbrev pub told : Made → Told
 told (Whole f) = toldWith 0 f
 told (Short f) = toldWith 11 f
 told (Refused r) = record { number = r .number; place = r .place; anchors = 0; tick = 0; hyperperiod = 0; walked = 0 }
+
+-- What making tells: a refusal's number and place and zeros; else 0, or 11 where the lists are shorter than g, with the figures either way.
+unfoldable pub toldAfter : Chain → ℕ → ℕ → Verdict → Told
+toldAfter c p a (verdict.Refused r) = record { number = r .number; place = r .place; anchors = 0; tick = 0; hyperperiod = 0; walked = 0 }
+toldAfter c p a (verdict.Accepted h) = toldWith (cond (leb (length (anchorsOf (tasksOf c) (p - 1) h)) a) 0 11) (figuresOf c p h)
+
+-- Making, given the lists' contents before and after.
+pub record Makes (c : Chain) (p : ℕ) (starts latencies starts′ latencies′ : List ℕ) (r : Made) : Type 0 where
+  pub answer : r ≡ madeOf c p (length starts) (length latencies)
+  pub tells : told r ≡ toldAfter c p (length starts) (judged c p (length starts) (length latencies))
+  pub leaves-starts : starts′ ≡ overlay (startsOf (writtenOf c p (length starts) (length latencies))) starts
+  pub leaves-latencies : latencies′ ≡ overlay (latenciesOf (writtenOf c p (length starts) (length latencies))) latencies

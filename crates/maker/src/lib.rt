@@ -32,6 +32,7 @@ pub enum Made {
     Refused(Refusal),
 }
 
+// What `fill` counts.
 pub struct Count {
     pub anchors: usize,
     pub walked: u64,

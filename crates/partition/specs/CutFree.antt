@@ -27,7 +27,7 @@ use Rattle.table.specs.Anchors.{Anchor, anchor}
 use Rattle.partition.specs.Lists.{rangeFrom, keep, dropRepeats}
 use Rattle.partition.specs.Partitions.{startOf, endOf, keeps, anchorOf, anchorsFrom, anchorsOf}
 use Rattle.partition.specs.Selections.{differ, select, keep-select}
-use Rattle.partition.specs.CanonicalAnchors.{anchors, canon, anchors-canon}
+use Rattle.partition.specs.CanonicalAnchors.{anchors, canonicalFrom, anchors-canon}
 
 count-job : (q : Latest) → countOf q - 1 ≡ jobOf q
 count-job (Of i) = omega arith
@@ -43,7 +43,7 @@ endWalk l j = writeOf (at l (lastPlace l)) (walk l j)
 
 -- the anchors by the first place's jobs: those that end later than the job before does, one hyperperiod of them from W1 on
 unfoldable pub canonical : List Task → ℕ → List Anchor
-canonical l h = canon (endWalk l) (readOf (at l 0)) (warmAt l 0) (h / at l 0 .period)
+canonical l h = canonicalFrom (endWalk l) (readOf (at l 0)) (warmAt l 0) (h / at l 0 .period)
 
 module _ (l : List Task) (p : ℕ) where
   starts : ℕ → ℕ
@@ -155,8 +155,8 @@ module _ (l : List Task) (ok : Sound l) (p : ℕ) (h : p < length l) where
       anchors-same l p (warmAt l p) (hyperOf l / at l p .period)
       ∙ anchors-canon (forwardBy l 0 p) (countBack l 0 p) (readOf (at l 0)) (endFrom l p) (pair l 0 p head) (read-same (at l 0) (ok .each 0 (ok .some) .period-pos))
       (warmAt l p) (hyperOf l / at l p .period) (warmAt l 0) warm-counts apart
-      ∙ ap (λ (e : ℕ → ℕ). canon e (readOf (at l 0)) (warmAt l 0) (countBack l 0 p (suc (warmAt l p + hyperOf l / at l p .period)) - suc (warmAt l 0))) (fun-ext same)
-      ∙ ap (canon (endWalk l) (readOf (at l 0)) (warmAt l 0)) spanned
+      ∙ ap (λ (e : ℕ → ℕ). canonicalFrom e (readOf (at l 0)) (warmAt l 0) (countBack l 0 p (suc (warmAt l p + hyperOf l / at l p .period)) - suc (warmAt l 0))) (fun-ext same)
+      ∙ ap (canonicalFrom (endWalk l) (readOf (at l 0)) (warmAt l 0)) spanned
     where
       same : (j : ℕ) → endFrom l p (forwardBy l 0 p j) ≡ endWalk l j
       same j = ap (writeOf (at l (lastPlace l))) (sym (walk-parts j))

@@ -9,7 +9,7 @@ pub struct Refusal {
 }
 
 impl Refusal {
-    // The refusal as one number, for C: its number and 256 times its place. Numbers and places are small.
+    // The refusal as one number, for C: its number and 256 times its place. The crates that call it prove that both are small.
     pub fn code(self) -> u64
         requires { ⌜ (self .number < 256) × (self .place ≤ 1000000000) ⌝ }
         ensures { λ r. ⌜ r ≡ codeOf self ⌝ }

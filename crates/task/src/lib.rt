@@ -1,4 +1,5 @@
 // Tasks, their jobs and ticks: when a job reads and writes, and which job reads or writes around a tick.
+// `within_limits` takes any task; what the other methods require is proved by the crates that call them.
 // A job number is never used as a tick: `Job` becomes `Tick` only by a task's read and write, `Tick` becomes `Job` only by their inverses.
 ghost use mathlib.Core.Path.{_≡_};
 ghost use Prim.Native.Nat.{_+_, _*_, _≤_, _<_};

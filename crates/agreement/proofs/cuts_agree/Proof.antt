@@ -1,6 +1,6 @@
-use mathlib.Core.Path.{_∙_}
+use mathlib.Core.Path.{refl, _∙_}
 use lib.ListN.{length-map}
-use Rattle.agreement.proofs.Exits.{tables-agree}
+use Rattle.agreement.proofs.Exits.{agreeing, tables-agree}
 use borrow.Author.Needs.{needs}
 use Rattle.agreement.proofs.cuts_agree.Statement.{statement}
 use Rattle.agreement.proofs.cuts_agree.Tie as tie
@@ -27,7 +27,8 @@ same-length-4 : tie.Need-same-length-4
 same-length-4 c = search needs
 
 returns : tie.Need-returns
-returns c = search needs
+returns c =
+    (agreeing _ _ _ _ _ _ _ _ (c .before .before .before .before .before .before .before .before .before .before .before .before .make-table .ensures) refl, agreeing _ _ _ _ _ _ _ _ (c .before .before .before .before .before .make-table2 .ensures) refl)
 
 enum-known-k : tie.Need-enum-known-k
 enum-known-k c = search needs
@@ -45,7 +46,8 @@ same-length-8 : tie.Need-same-length-8
 same-length-8 c = search needs
 
 returns-2 : tie.Need-returns-2
-returns-2 c = search needs
+returns-2 c =
+    (agreeing _ _ _ _ _ _ _ _ (c .before .before .before .before .before .before .before .before .before .before .before .before .before .before .before .make-table .ensures) refl, agreeing _ _ _ _ _ _ _ _ (c .before .before .before .before .before .before .before .before .make-table2 .ensures) refl)
 
 same-anchors-requires : tie.Need-same-anchors-requires
 same-anchors-requires c κs = search needs
@@ -64,8 +66,8 @@ same-length-12 c = search needs
 
 returns-3 : tie.Need-returns-3
 returns-3 c =
-    c .same-anchors .ensures
-    ∙ tables-agree (c .before .before .before .before .before .before .before .before .before .before .before .before .before .before .before .before .before .before .before .before .before .before .before .before .before .before .before .before .before .args .c) (simp length-map at (c .before .before .before .before .before .before .before .before .before .before .before .before .before .before .before .before .before .before .before .before .before .before .before .before .before .before .before .before .before .good .0 .1 .1 .0 .1 .0 .1)) _ _ _ _ _ _ _ _ (c .before .before .before .before .before .before .before .before .before .before .before .before .before .before .before .before .before .before .before .before .before .before .make-table .ensures) (c .before .before .before .before .before .before .before .before .before .m .given .1) _ _ _ _ _ _ (c .before .before .before .before .before .before .before .before .before .before .before .before .before .before .before .make-table2 .ensures) (c .before .before .before .before .before .before .k .given .1)
+    let e = c .same-anchors .ensures ∙ tables-agree (c .before .before .before .before .before .before .before .before .before .before .before .before .before .before .before .before .before .before .before .before .before .before .before .before .before .before .before .before .before .args .c) (simp length-map at (c .before .before .before .before .before .before .before .before .before .before .before .before .before .before .before .before .before .before .before .before .before .before .before .before .before .before .before .before .before .good .0 .1 .1 .0 .1 .0 .1)) _ _ _ _ _ _ _ _ (c .before .before .before .before .before .before .before .before .before .before .before .before .before .before .before .before .before .before .before .before .before .before .make-table .ensures) (c .before .before .before .before .before .before .before .before .before .m .given .1) _ _ _ _ _ _ (c .before .before .before .before .before .before .before .before .before .before .before .before .before .before .before .make-table2 .ensures) (c .before .before .before .before .before .before .k .given .1) in
+    (agreeing _ _ _ _ _ _ _ _ (c .before .before .before .before .before .before .before .before .before .before .before .before .before .before .before .before .before .before .before .before .before .before .make-table .ensures) e, agreeing _ _ _ _ _ _ _ _ (c .before .before .before .before .before .before .before .before .before .before .before .before .before .before .before .make-table2 .ensures) e)
 
 pub cuts-agree-spec : {M : Type 1} → statement M
 cuts-agree-spec =

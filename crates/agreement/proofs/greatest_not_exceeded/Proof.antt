@@ -1,7 +1,7 @@
 use borrow.Author.Tests.{not-true}
-use mathlib.Core.Path.{sym, _∙_}
+use mathlib.Core.Path.{refl, sym, _∙_}
 use lib.ListN.{length-map}
-use Rattle.agreement.proofs.Exits.{greatest-there, delay-at-most, age-at-most}
+use Rattle.agreement.proofs.Exits.{agreeing, greatest-there, delay-at-most, age-at-most}
 use borrow.Author.Needs.{needs}
 use Rattle.agreement.proofs.greatest_not_exceeded.Statement.{statement}
 use Rattle.agreement.proofs.greatest_not_exceeded.Tie as tie
@@ -19,7 +19,9 @@ same-length-2 : tie.Need-same-length-2
 same-length-2 c = search needs
 
 returns : tie.Need-returns
-returns c = search needs
+returns c =
+    agreeing _ _ _ _ _ _ _ _ (c .before .before .before .before .before .make-table .ensures)
+    refl
 
 greatest-of-requires : tie.Need-greatest-of-requires
 greatest-of-requires c κs = search needs
@@ -53,8 +55,8 @@ same-length-6 c = search needs
 
 returns-3 : tie.Need-returns-3
 returns-3 c =
-    sym (not-true (c .before .at-most .result) (c .if1 .taken)) ∙ c .before .at-most .ensures
-    ∙ delay-at-most (c .before .before .before .before .before .before .before .before .before .before .before .before .before .before .before .before .before .before .before .before .before .args .c) (simp length-map at (c .before .before .before .before .before .before .before .before .before .before .before .before .before .before .before .before .before .before .before .before .before .good .0 .1 .1 .0 .1 .0 .1)) _ _ _ _ _ _ _ (c .before .before .before .before .before .before .before .before .before .before .before .before .before .before .before .before .make-table .ensures) (c .before .before .before .before .before .before .before .before .before .before .m .given .1) _ _ (c .before .before .before .before .before .before .greatest-of .ensures) (c .before .before .before .before .v .given .1) _ _ (c .before .before .delay .ensures)
+    agreeing _ _ _ _ _ _ _ _ (c .before .before .before .before .before .before .before .before .before .before .before .before .before .before .before .before .make-table .ensures)
+    (sym (not-true (c .before .at-most .result) (c .if1 .taken)) ∙ c .before .at-most .ensures ∙ delay-at-most (c .before .before .before .before .before .before .before .before .before .before .before .before .before .before .before .before .before .before .before .before .before .args .c) (simp length-map at (c .before .before .before .before .before .before .before .before .before .before .before .before .before .before .before .before .before .before .before .before .before .good .0 .1 .1 .0 .1 .0 .1)) _ _ _ _ _ _ _ (c .before .before .before .before .before .before .before .before .before .before .before .before .before .before .before .before .make-table .ensures) (c .before .before .before .before .before .before .before .before .before .before .m .given .1) _ _ (c .before .before .before .before .before .before .greatest-of .ensures) (c .before .before .before .before .v .given .1) _ _ (c .before .before .delay .ensures))
 
 age-requires : tie.Need-age-requires
 age-requires c κs = search needs
@@ -70,8 +72,8 @@ same-length-8 c = search needs
 
 returns-4 : tie.Need-returns-4
 returns-4 c =
-    c .at-most2 .ensures
-    ∙ age-at-most (c .before .before .before .before .before .before .before .before .before .before .before .before .before .before .before .before .before .before .before .before .before .before .before .args .c) (simp length-map at (c .before .before .before .before .before .before .before .before .before .before .before .before .before .before .before .before .before .before .before .before .before .before .before .good .0 .1 .1 .0 .1 .0 .1)) _ _ _ _ _ _ _ (c .before .before .before .before .before .before .before .before .before .before .before .before .before .before .before .before .before .before .make-table .ensures) (c .before .before .before .before .before .before .before .before .before .before .before .before .m .given .1) _ _ (c .before .before .before .before .before .before .before .before .greatest-of .ensures) (c .before .before .before .before .before .before .v .given .1) _ _ (c .before .age .ensures)
+    agreeing _ _ _ _ _ _ _ _ (c .before .before .before .before .before .before .before .before .before .before .before .before .before .before .before .before .before .before .make-table .ensures)
+    (c .at-most2 .ensures ∙ age-at-most (c .before .before .before .before .before .before .before .before .before .before .before .before .before .before .before .before .before .before .before .before .before .before .before .args .c) (simp length-map at (c .before .before .before .before .before .before .before .before .before .before .before .before .before .before .before .before .before .before .before .before .before .before .before .good .0 .1 .1 .0 .1 .0 .1)) _ _ _ _ _ _ _ (c .before .before .before .before .before .before .before .before .before .before .before .before .before .before .before .before .before .before .make-table .ensures) (c .before .before .before .before .before .before .before .before .before .before .before .before .m .given .1) _ _ (c .before .before .before .before .before .before .before .before .greatest-of .ensures) (c .before .before .before .before .before .before .v .given .1) _ _ (c .before .age .ensures))
 
 pub greatest-not-exceeded-spec : {M : Type 1} → statement M
 greatest-not-exceeded-spec =

@@ -1,7 +1,7 @@
 use native.Mathlib.Omega.{arith}
-use mathlib.Core.Path.{_∙_}
+use mathlib.Core.Path.{refl, _∙_}
 use lib.ListN.{length-map}
-use Rattle.agreement.proofs.Exits.{greatest-there, starts-hold, latencies-hold, anchors-few, meets, reached-true}
+use Rattle.agreement.proofs.Exits.{agreeing, greatest-there, starts-hold, latencies-hold, anchors-few, meets, reached-true}
 use borrow.Author.Needs.{needs}
 use Rattle.agreement.proofs.greatest_reached.Statement.{statement}
 use Rattle.agreement.proofs.greatest_reached.Tie as tie
@@ -19,7 +19,9 @@ same-length-2 : tie.Need-same-length-2
 same-length-2 c = search needs
 
 returns : tie.Need-returns
-returns c = search needs
+returns c =
+    agreeing _ _ _ _ _ _ _ _ (c .before .before .before .before .before .make-table .ensures)
+    refl
 
 greatest-of-requires : tie.Need-greatest-of-requires
 greatest-of-requires c κs = search needs
@@ -46,7 +48,9 @@ same-length-6 : tie.Need-same-length-6
 same-length-6 c = search needs
 
 returns-3 : tie.Need-returns-3
-returns-3 c = search needs
+returns-3 c =
+    agreeing _ _ _ _ _ _ _ _ (c .before .before .before .before .before .before .before .before .before .before .before .before .before .before .before .make-table .ensures)
+    refl
 
 mul-if2 : tie.Need-mul-if2
 mul-if2 c = omega (arith, anchors-few (c .before .before .before .before .before .before .before .before .before .before .before .before .before .before .before .before .before .before .before .before .args .c) (simp length-map at (c .before .before .before .before .before .before .before .before .before .before .before .before .before .before .before .before .before .before .before .before .good .0 .1 .1 .0 .1 .0 .1)) _ _ _ _ _ _ _ (c .before .before .before .before .before .before .before .before .before .before .before .before .before .before .before .make-table .ensures) (c .before .before .before .before .before .before .before .before .before .m .given .1))
@@ -61,7 +65,9 @@ same-length-8 : tie.Need-same-length-8
 same-length-8 c = search needs
 
 returns-4 : tie.Need-returns-4
-returns-4 c = search needs
+returns-4 c =
+    agreeing _ _ _ _ _ _ _ _ (c .before .before .before .before .before .before .before .before .before .before .before .before .before .before .before .before .before .make-table .ensures)
+    refl
 
 mul-reached-at : tie.Need-mul-reached-at
 mul-reached-at c = omega (arith, anchors-few (c .before .before .before .before .before .before .before .before .before .before .before .before .before .before .before .before .before .before .before .before .before .before .args .c) (simp length-map at (c .before .before .before .before .before .before .before .before .before .before .before .before .before .before .before .before .before .before .before .before .before .before .good .0 .1 .1 .0 .1 .0 .1)) _ _ _ _ _ _ _ (c .before .before .before .before .before .before .before .before .before .before .before .before .before .before .before .before .before .make-table .ensures) (c .before .before .before .before .before .before .before .before .before .before .before .m .given .1))
@@ -82,8 +88,8 @@ same-length-10 c = search needs
 
 returns-5 : tie.Need-returns-5
 returns-5 c =
-    c .reached-at .ensures
-    ∙ reached-true _ _ _ (meets (c .before .before .before .before .before .before .before .before .before .before .before .before .before .before .before .before .before .before .before .before .before .before .before .before .args .c) (simp length-map at (c .before .before .before .before .before .before .before .before .before .before .before .before .before .before .before .before .before .before .before .before .before .before .before .before .good .0 .1 .1 .0 .1 .0 .1)) _ _ _ _ _ _ _ (c .before .before .before .before .before .before .before .before .before .before .before .before .before .before .before .before .before .before .before .make-table .ensures) (c .before .before .before .before .before .before .before .before .before .before .before .before .before .m .given .1) _ _ (c .before .before .before .before .before .before .before .before .before .greatest-of .ensures) (c .before .before .before .before .before .before .before .v .given .1) (c .before .before .before .before .before .before .before .before .before .before .before .before .before .before .before .before .before .before .before .before .before .before .before .before .args .i) (c .before .before .before .before .if1 .left) (c .before .before .if2 .left))
+    agreeing _ _ _ _ _ _ _ _ (c .before .before .before .before .before .before .before .before .before .before .before .before .before .before .before .before .before .before .before .make-table .ensures)
+    (c .reached-at .ensures ∙ reached-true _ _ _ (meets (c .before .before .before .before .before .before .before .before .before .before .before .before .before .before .before .before .before .before .before .before .before .before .before .before .args .c) (simp length-map at (c .before .before .before .before .before .before .before .before .before .before .before .before .before .before .before .before .before .before .before .before .before .before .before .before .good .0 .1 .1 .0 .1 .0 .1)) _ _ _ _ _ _ _ (c .before .before .before .before .before .before .before .before .before .before .before .before .before .before .before .before .before .before .before .make-table .ensures) (c .before .before .before .before .before .before .before .before .before .before .before .before .before .m .given .1) _ _ (c .before .before .before .before .before .before .before .before .before .greatest-of .ensures) (c .before .before .before .before .before .before .before .v .given .1) (c .before .before .before .before .before .before .before .before .before .before .before .before .before .before .before .before .before .before .before .before .before .before .before .before .args .i) (c .before .before .before .before .if1 .left) (c .before .before .if2 .left)))
 
 pub greatest-reached-spec : {M : Type 1} → statement M
 greatest-reached-spec =
