@@ -113,7 +113,7 @@ def making(ours, r, factor, compare):
         _, g, x0, h, _ = answer
         table = library.table(starts, latencies, g, h)
         ticks = [x0, x0 + h, inputs.UPPER, inputs.UPPER - r.randint(0, 3 * h), r.randint(x0, inputs.UPPER)]
-        for start in r.sample(starts[:g], min(g, 6)):
+        for start in starts[:g]:
             ticks += [start, max(x0, start - 1), start + h * r.randint(1, 10**6 // h + 1)]
         for t in ticks:
             if t <= inputs.UPPER:
