@@ -81,7 +81,8 @@ def lists_of_tasks(ours, r, factor, compare):
         compare.same(ours.delay(numbers, places, 100), eight, "length", numbers)
         compare.same(ours.warm_up(numbers, places), eight, "length", numbers)
         whole = inputs.flat(tasks)
-        for places in (len(tasks) + 1, 13, 2**32, 2**63, library.LARGEST):
+        # The last two would be the right count to a call that kept fewer bits.
+        for places in (len(tasks) + 1, 13, 2**63, library.LARGEST, len(tasks) + 2**32, len(tasks) + 2**63):
             compare.same(ours.age(whole, places, 100), eight, "places", whole, places)
             compare.same(ours.check(whole, places), eight, "places", whole, places)
 
