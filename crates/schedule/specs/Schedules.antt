@@ -1,0 +1,67 @@
+-- Document 01, "Tasks and jobs" and "Schedule file": the tasks of a schedule with their numbers, and the tasks at the places of its chain.
+use Prim.Native.Nat.{ℕ, zero, suc, _+_}
+use mathlib.Core.Bool.{Bool, true, false, cond, _&&_}
+use mathlib.Core.List.{List, [], _∷_, _++_, map}
+use lib.Dec.{ltb, leb, eqb}
+use lib.ListN.{length, take, replicate}
+use Rattle.task.specs.declared.Task.{Task}
+use Rattle.task.specs.Jobs.{withinLimits}
+use Rattle.chain.specs.declared.Chain.{Chain}
+use Rattle.chain.specs.Chains.{zeroTask}
+use Rattle.schedule.specs.declared.NumberedTask.{NumberedTask}
+use Rattle.schedule.specs.declared.Schedule.{Schedule}
+
+abbrev pub numberOf : NumberedTask → ℕ
+numberOf t = t .number
+
+-- The tasks and the chain of a schedule. Array entries past a count are no part of it.
+abbrev pub tasksIn : Schedule → List NumberedTask
+tasksIn s = take (s .count) (s .tasks)
+
+abbrev pub placesIn : Schedule → List ℕ
+placesIn s = take (s .places) (s .chain)
+
+-- The rule of a task's number and values, `before` being the number of the task before it, 0 for the first task:
+-- numbers from 1 to 65,535 that rise strictly, and a period, duration and phase inside their limits.
+unfoldable pub taskRule : ℕ → NumberedTask → Bool
+taskRule before t = ltb before (t .number) && (leb (t .number) 65535 && withinLimits (t .task))
+
+-- Where a number stands first in a list, counted from 0; the list's length where it does not.
+unfoldable pub positionOf : ℕ → List ℕ → ℕ
+positionOf n [] = 0
+positionOf n (m ∷ l) = cond (eqb m n) 0 (suc (positionOf n l))
+
+-- A number is that of a task.
+unfoldable pub known : List ℕ → ℕ → Bool
+known [] n = false
+known (m ∷ l) n = cond (eqb m n) true (known l n)
+
+-- The lesser of two numbers.
+abbrev pub least : ℕ → ℕ → ℕ
+least m n = cond (ltb m n) m n
+
+-- The task with a number; zeros where there is none.
+unfoldable pub taskNumbered : List NumberedTask → ℕ → Task
+taskNumbered [] n = zeroTask
+taskNumbered (t ∷ l) n = cond (eqb (t .number) n) (t .task) (taskNumbered l n)
+
+-- A list as an array of n entries: what is past the list is d.
+unfoldable pub padded : {A : Type 0} → ℕ → A → List A → List A
+padded zero d l = l
+padded (suc n) d [] = d ∷ padded n d []
+padded (suc n) d (x ∷ l) = x ∷ padded n d l
+
+-- The chain of a schedule: the tasks at its places.
+abbrev pub chainOf : Schedule → Chain
+chainOf s = record { tasks = padded 12 zeroTask (map (taskNumbered (tasksIn s)) (placesIn s)); places = s .places }
+
+abbrev pub zeroNumbered : NumberedTask
+zeroNumbered = record { number = 0; task = zeroTask }
+
+-- The schedule of a list of tasks and a chain: zeros past the counts.
+abbrev pub scheduleOf : List NumberedTask → List ℕ → Schedule
+scheduleOf ts ch = record { tasks = padded 32 zeroNumbered ts; chain = padded 12 0 ch; count = length ts; places = length ch }
+
+-- A schedule of zeros.
+abbrev pub emptySchedule : Schedule
+emptySchedule = record { tasks = replicate 32 zeroNumbered; chain = replicate 12 0; count = 0; places = 0 }
