@@ -1,0 +1,178 @@
+// Reading a schedule file: any bytes are accepted whole or refused at the record where the first fault stands.
+// `read_file` is the entry point; the other functions judge or read one record.
+use refusal::Refusal;
+use schedule::NumberedTask;
+use schedule::Schedule;
+use task::Task;
+ghost use mathlib.Core.Path.{_≡_};
+ghost use mathlib.Core.List.{List};
+ghost use Prim.Native.Nat.{_+_, _*_, _≤_, _<_};
+ghost use lib.ListN.{length, take};
+ghost use Rattle.file_reader.specs.Reading.{lengthField, taskField, lastOf, allKnown, chainField, chainEntries, taskRecord, chainRecord, endRecord, recordOf, refusedFile, readFile};
+
+// What one record is: a task, a chain of so many places, the end, or the number of its fault.
+pub enum Record {
+    Task(NumberedTask),
+    Chain(usize),
+    End,
+    Fault(u64),
+}
+
+// A schedule that was read. The refusal is number 0 at place 0 in a success; in a refusal the schedule is zeros.
+pub struct FileRead {
+    pub refusal: Refusal,
+    pub schedule: Schedule,
+}
+
+// ---- the fields of a record
+
+// The task of a task record.
+fn task_field(rest: &[u8]) -> NumberedTask
+    requires { ⌜ 18 ≤ length (now rest) ⌝ }
+    ensures { λ r. ⌜ r ≡ taskField (now (rest .entry)) ⌝ }
+{
+    let task = Task {
+        period: little_endian::number_at(rest, 6, 4),
+        duration: little_endian::number_at(rest, 10, 4),
+        phase: little_endian::number_at(rest, 14, 4),
+    };
+    NumberedTask {
+        number: little_endian::number_at(rest, 4, 2),
+        task,
+    }
+}
+
+// Whether the first `places` numbers of a chain record are all among the first `count` numbers.
+fn all_known(rest: &[u8], places: usize, numbers: &[u64], count: usize) -> bool
+    requires { ⌜ (places ≤ 12) × (4 + 2 * places ≤ length (now rest)) × (count ≤ length (now numbers)) ⌝ }
+    ensures { λ r. ⌜ r ≡ allKnown (take count (now (numbers .entry))) (chainField (now (rest .entry)) places) ⌝ }
+{
+    let mut i: usize = 0;
+    while i < places {
+        let n = little_endian::number_at(rest, 4 + 2 * i, 2);
+        if schedule::find(numbers, count, n) < count {
+            i += 1;
+        } else {
+            return false;
+        }
+    }
+    true
+}
+
+// The places of a chain record, and zeros past them.
+fn chain_entries(rest: &[u8], places: usize) -> [u64; 12]
+    requires { ⌜ (places ≤ 12) × (4 + 2 * places ≤ length (now rest)) ⌝ }
+    ensures { λ r. ⌜ r ≡ chainEntries (now (rest .entry)) places ⌝ }
+{
+    let mut chain = [0u64; 12];
+    let mut i: usize = 0;
+    while i < places {
+        chain[i] = little_endian::number_at(rest, 4 + 2 * i, 2);
+        i += 1;
+    }
+    chain
+}
+
+// ---- one record, by kind
+
+// A task record, where the first `count` numbers are those of the tasks before it.
+fn task_record(rest: &[u8], long: u64, numbers: &[u64], count: usize, places: usize) -> Record
+    requires { ⌜ (long ≡ lengthField (now rest)) × (long ≤ length (now rest)) × (count ≤ length (now numbers)) ⌝ }
+    ensures { λ r. ⌜ r ≡ taskRecord (take count (now (numbers .entry))) places (now (rest .entry)) ⌝ }
+{
+    if long != 18 {
+        return Record::Fault(2);
+    }
+    if places != 0 {
+        return Record::Fault(4);
+    }
+    if 32 <= count {
+        return Record::Fault(4);
+    }
+    let t = task_field(rest);
+    if schedule::follows(last_of(numbers, count), t) {
+        Record::Task(t)
+    } else {
+        Record::Fault(5)
+    }
+}
+
+// The last of the first `count` numbers, or 0.
+fn last_of(numbers: &[u64], count: usize) -> u64
+    requires { ⌜ count ≤ length (now numbers) ⌝ }
+    ensures { λ r. ⌜ r ≡ lastOf (take count (now (numbers .entry))) ⌝ }
+{
+    if count == 0 {
+        return 0;
+    }
+    numbers[count - 1]
+}
+
+// A chain record.
+fn chain_record(rest: &[u8], long: u64, numbers: &[u64], count: usize, places: usize) -> Record
+    requires { ⌜ (long ≡ lengthField (now rest)) × (4 ≤ long) × (long ≤ length (now rest)) × (count ≤ length (now numbers)) ⌝ }
+    ensures { λ r. ⌜ r ≡ chainRecord (take count (now (numbers .entry))) places (now (rest .entry)) ⌝ }
+{
+    let p = (long - 4) / 2;
+    if long != 4 + 2 * p {
+        return Record::Fault(2);
+    }
+    if p < 1 {
+        return Record::Fault(2);
+    }
+    if 12 < p {
+        return Record::Fault(2);
+    }
+    if places != 0 {
+        return Record::Fault(4);
+    }
+    if count == 0 {
+        return Record::Fault(4);
+    }
+    if all_known(rest, p as usize, numbers, count) {
+        Record::Chain(p as usize)
+    } else {
+        Record::Fault(6)
+    }
+}
+
+// The end record.
+fn end_record(long: u64, places: usize) -> Record
+    ensures { λ r. ⌜ r ≡ endRecord long places ⌝ }
+{
+    if long != 4 {
+        return Record::Fault(2);
+    }
+    if places == 0 {
+        return Record::Fault(4);
+    }
+    Record::End
+}
+
+// The record that bytes begin with, judged in document 01's order: 1, 2, 1, 3, 2, 4, 5, 6. A further kind is one more arm.
+fn record_of(rest: &[u8], numbers: &[u64], count: usize, places: usize) -> Record
+    requires { ⌜ count ≤ length (now numbers) ⌝ }
+    ensures { λ r. ⌜ r ≡ recordOf (take count (now (numbers .entry))) places (now (rest .entry)) ⌝ }
+{
+    if rest.len() < 4 {
+        return Record::Fault(1);
+    }
+    let long = little_endian::number_at(rest, 0, 2);
+    if long < 4 {
+        return Record::Fault(2);
+    }
+    if (rest.len() as u64) < long {
+        return Record::Fault(1);
+    }
+    let kind = little_endian::number_at(rest, 2, 2);
+    if kind == 1 {
+        return task_record(rest, long, numbers, count, places);
+    }
+    if kind == 2 {
+        return chain_record(rest, long, numbers, count, places);
+    }
+    if kind == 3 {
+        return end_record(long, places);
+    }
+    Record::Fault(3)
+}
