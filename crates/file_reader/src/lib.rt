@@ -176,3 +176,86 @@ fn record_of(rest: &[u8], numbers: &[u64], count: usize, places: usize) -> Recor
     }
     Record::Fault(3)
 }
+
+// ---- the file
+
+// A refusal gives a schedule of zeros.
+fn refused(number: u64, place: usize) -> FileRead
+    ensures { λ r. ⌜ r ≡ refusedFile number place ⌝ }
+{
+    let zero = NumberedTask {
+        number: 0,
+        task: Task {
+            period: 0,
+            duration: 0,
+            phase: 0,
+        },
+    };
+    FileRead {
+        refusal: Refusal { number, place },
+        schedule: Schedule {
+            tasks: [zero; 32],
+            chain: [0; 12],
+            count: 0,
+            places: 0,
+        },
+    }
+}
+
+// Reads a schedule file, record by record.
+pub fn read_file(bytes: &[u8]) -> FileRead
+    ensures { λ r. ⌜ r ≡ readFile (now (bytes .entry)) ⌝ }
+{
+    let zero = NumberedTask {
+        number: 0,
+        task: Task {
+            period: 0,
+            duration: 0,
+            phase: 0,
+        },
+    };
+    let mut tasks = [zero; 32];
+    let mut numbers = [0u64; 32];
+    let mut chain = [0u64; 12];
+    let mut count: usize = 0;
+    let mut places: usize = 0;
+    let mut at: usize = 0;
+    while at < bytes.len() {
+        let rest = &bytes[at..];
+        let r = record_of(rest, &numbers, count, places);
+        match r {
+            Record::Task(t) => {
+                numbers[count] = t.number;
+                tasks[count] = t;
+                count += 1;
+                at += 18;
+            }
+            Record::Chain(p) => {
+                chain = chain_entries(rest, p);
+                places = p;
+                at += 4 + 2 * p;
+            }
+            Record::End => {
+                if 4 < rest.len() {
+                    return refused(4, at + 4);
+                }
+                return FileRead {
+                    refusal: Refusal {
+                        number: 0,
+                        place: 0,
+                    },
+                    schedule: Schedule {
+                        tasks,
+                        chain,
+                        count,
+                        places,
+                    },
+                };
+            }
+            Record::Fault(k) => {
+                return refused(k, at);
+            }
+        }
+    }
+    refused(1, at)
+}

@@ -1,0 +1,126 @@
+-- What is known of the bytes of a record from what it was judged to be.
+use Prim.Native.Nat.{ℕ, zero, suc, _+_, _-_, _*_, _/_, _≤_, _<_}
+use native.Mathlib.Omega.{arith}
+use mathlib.Core.Path.{_≡_, refl, sym, ap, _∙_}
+use mathlib.Core.Bool.{Bool, true, false, cond, _&&_}
+use mathlib.Core.List.{List}
+use lib.Dec.{ltb, leb, eqb}
+use lib.ListN.{length}
+use borrow.Author.Tests.{ltb-true, ltb-false, leb-true, eqb-true, eqb-false}
+use Rattle.schedule.specs.declared.NumberedTask.{NumberedTask}
+use Rattle.schedule.specs.Schedules.{taskRule}
+use Rattle.file_reader.specs.declared.Record.{Record}
+use Rattle.file_reader.specs.declared.Record.the-variants.{Task, Chain, End, Fault}
+use Rattle.file_reader.specs.Reading.{lengthField, kindField, placesField, taskField, chainField, lastOf, allKnown, taskRecord, chainRecord, endRecord, kindRecord, recordOf}
+
+pub record IsTask (numbers : List ℕ) (places : ℕ) (l : List ℕ) (t : NumberedTask) : Type 0 where
+  pub long : 18 ≤ length l
+  pub length-is : lengthField l ≡ 18
+  pub kind-is : kindField l ≡ 1
+  pub no-chain : places ≡ 0
+  pub few : length numbers < 32
+  pub rule : taskRule (lastOf numbers) t ≡ true
+  pub is : t ≡ taskField l
+
+pub record IsChain (numbers : List ℕ) (places : ℕ) (l : List ℕ) (p : ℕ) : Type 0 where
+  pub long : 4 + 2 * p ≤ length l
+  pub length-is : lengthField l ≡ 4 + 2 * p
+  pub kind-is : kindField l ≡ 2
+  pub some : 1 ≤ p
+  pub few : p ≤ 12
+  pub no-chain : places ≡ 0
+  pub tasks : 1 ≤ length numbers
+  pub all : allKnown numbers (chainField l p) ≡ true
+
+pub record IsEnd (places : ℕ) (l : List ℕ) : Type 0 where
+  pub long : 4 ≤ length l
+  pub length-is : lengthField l ≡ 4
+  pub kind-is : kindField l ≡ 3
+  pub chain : 1 ≤ places
+
+abbrev pub Tells : List ℕ → ℕ → List ℕ → Record → Type 0
+Tells numbers places l (Task t) = IsTask numbers places l t
+Tells numbers places l (Chain p) = IsChain numbers places l p
+Tells numbers places l End = IsEnd places l
+Tells numbers places l (Fault k) = (1 ≤ k) × (k ≤ 6)
+
+-- a choice has what both sides have
+choice : (P : Record → Type 0) (b : Bool) (x y : Record) → (b ≡ true → P x) → (b ≡ false → P y) → P (cond b x y)
+choice P true x y f g = f refl
+choice P false x y f g = g refl
+
+both : (a b : Bool) → (a && b) ≡ true → (a ≡ true) × (b ≡ true)
+both true true h = (refl, refl)
+both true false h = absurd (let z : _≡_ {A = ℕ} 0 1 = cc in omega arith)
+both false b h = absurd (let z : _≡_ {A = ℕ} 0 1 = cc in omega arith)
+
+module _ (ns : List ℕ) (p : ℕ) (l : List ℕ) (inside : lengthField l ≤ length l) where
+  task-tells : kindField l ≡ 1 → Tells ns p l (taskRecord ns p l)
+  unfolding taskRecord
+  task-tells kind =
+      choice (Tells ns p l) (eqb (lengthField l) 18) _ _ (λ a.
+      choice (Tells ns p l) (eqb p 0 && ltb (length ns) 32) _ _ (λ b.
+      choice (Tells ns p l) (taskRule (lastOf ns) (taskField l)) _ _ (λ r. record {
+        long = omega (arith, eqb-true (lengthField l) 18 a);
+        length-is = eqb-true (lengthField l) 18 a;
+        kind-is = kind;
+        no-chain = eqb-true p 0 (both (eqb p 0) (ltb (length ns) 32) b .0);
+        few = ltb-true (length ns) 32 (both (eqb p 0) (ltb (length ns) 32) b .1);
+        rule = r;
+        is = refl;
+      }) (λ r. (omega arith, omega arith)))
+      (λ b. (omega arith, omega arith)))
+      (λ a. (omega arith, omega arith))
+
+  chain-tells : kindField l ≡ 2 → Tells ns p l (chainRecord ns p l)
+  unfolding chainRecord
+  chain-tells kind =
+      let q = placesField l in
+      choice (Tells ns p l) (eqb (lengthField l) (4 + 2 * q) && (leb 1 q && leb q 12)) _ _ (λ a.
+      let u = both (eqb (lengthField l) (4 + 2 * q)) (leb 1 q && leb q 12) a in
+      let e : lengthField l ≡ 4 + 2 * q = eqb-true (lengthField l) (4 + 2 * q) (u .0) in
+      choice (Tells ns p l) (eqb p 0 && leb 1 (length ns)) _ _ (λ b.
+      choice (Tells ns p l) (allKnown ns (chainField l q)) _ _ (λ r. record {
+        long = omega arith;
+        length-is = e;
+        kind-is = kind;
+        some = leb-true 1 q (both (leb 1 q) (leb q 12) (u .1) .0);
+        few = leb-true q 12 (both (leb 1 q) (leb q 12) (u .1) .1);
+        no-chain = eqb-true p 0 (both (eqb p 0) (leb 1 (length ns)) b .0);
+        tasks = leb-true 1 (length ns) (both (eqb p 0) (leb 1 (length ns)) b .1);
+        all = r;
+      }) (λ r. (omega arith, omega arith)))
+      (λ b. (omega arith, omega arith)))
+      (λ a. (omega arith, omega arith))
+
+  end-tells : kindField l ≡ 3 → Tells ns p l (endRecord (lengthField l) p)
+  unfolding endRecord
+  end-tells kind =
+      choice (Tells ns p l) (eqb (lengthField l) 4) _ _ (λ a.
+      choice (Tells ns p l) (eqb p 0) _ _ (λ b. (omega arith, omega arith)) (λ b.
+      let n = eqb-false p 0 b in record {
+        long = omega (arith, eqb-true (lengthField l) 4 a);
+        length-is = eqb-true (lengthField l) 4 a;
+        kind-is = kind;
+        chain = omega arith;
+      }))
+      (λ a. (omega arith, omega arith))
+
+  kind-tells : Tells ns p l (kindRecord (kindField l) ns p l)
+  unfolding kindRecord
+  kind-tells =
+      choice (Tells ns p l) (eqb (kindField l) 1) _ _ (λ a. task-tells (eqb-true (kindField l) 1 a)) (λ a.
+      choice (Tells ns p l) (eqb (kindField l) 2) _ _ (λ b. chain-tells (eqb-true (kindField l) 2 b)) (λ b.
+      choice (Tells ns p l) (eqb (kindField l) 3) _ _ (λ c. end-tells (eqb-true (kindField l) 3 c)) (λ c. (omega arith, omega arith))))
+
+-- Every record tells what it was judged from; a fault is 1 to 6.
+pub record-tells : (ns : List ℕ) (p : ℕ) (l : List ℕ) → Tells ns p l (recordOf ns p l)
+unfolding recordOf
+record-tells ns p l =
+    choice (Tells ns p l) (ltb (length l) 4) _ _ (λ a. (omega arith, omega arith)) (λ a.
+    choice (Tells ns p l) (ltb (lengthField l) 4) _ _ (λ b. (omega arith, omega arith)) (λ b.
+    choice (Tells ns p l) (ltb (length l) (lengthField l)) _ _ (λ c. (omega arith, omega arith)) (λ c.
+    kind-tells ns p l (ltb-false (length l) (lengthField l) c))))
+
+pub tells : (ns : List ℕ) (p : ℕ) (l : List ℕ) (r : Record) → recordOf ns p l ≡ r → Tells ns p l r
+tells ns p l r e = rw e at (record-tells ns p l)
