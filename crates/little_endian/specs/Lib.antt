@@ -1,2 +1,3 @@
 pub mod LittleEndian
 pub mod Spelling
+pub mod Stores

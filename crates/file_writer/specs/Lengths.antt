@@ -1,0 +1,36 @@
+-- How long each part of a file is.
+use Prim.Native.Nat.{ℕ, zero, suc, _+_, _*_, _≤_}
+use native.Mathlib.Omega.{arith}
+use mathlib.Core.Path.{_≡_, refl, sym, ap, _∙_}
+use mathlib.Core.List.{List, [], _∷_, _++_}
+use lib.ListN.{length, length-append}
+use Rattle.little_endian.specs.LittleEndian.{bytesOf}
+use Rattle.little_endian.specs.Spelling.{length-bytes}
+use Rattle.schedule.specs.declared.NumberedTask.{NumberedTask}
+use Rattle.file_writer.specs.FileBytes.{taskBytes, tasksBytes, numbersBytes, chainBytes, endBytes, fileOf}
+
+pub length-task : (t : NumberedTask) → length (taskBytes t) ≡ 18
+unfolding taskBytes
+length-task t = simp (length-append, length-bytes)
+
+pub length-tasks : (ts : List NumberedTask) → length (tasksBytes ts) ≡ 18 * length ts
+unfolding tasksBytes
+length-tasks [] = refl
+length-tasks (t ∷ ts) = simp (length-append, length-task) (omega (arith, length-tasks ts))
+
+pub length-places : (ch : List ℕ) → length (numbersBytes ch) ≡ 2 * length ch
+unfolding numbersBytes
+length-places [] = refl
+length-places (n ∷ ch) = simp (length-append, length-bytes) (omega (arith, length-places ch))
+
+pub length-chain : (ch : List ℕ) → length (chainBytes ch) ≡ 4 + 2 * length ch
+unfolding chainBytes
+length-chain ch = simp (length-append, length-bytes) (omega (arith, length-places ch))
+
+pub length-end : length endBytes ≡ 4
+unfolding endBytes
+length-end = simp (length-append, length-bytes)
+
+pub length-file : (ts : List NumberedTask) (ch : List ℕ) → length (fileOf ts ch) ≡ 18 * length ts + 8 + 2 * length ch
+unfolding fileOf
+length-file ts ch = simp (length-append, length-end) (omega (arith, length-tasks ts, length-chain ch))
