@@ -164,10 +164,11 @@ uint64_t mo_make_table(const uint64_t *tasks, size_t tasks_length, size_t places
                        uint64_t *latencies, size_t latencies_length, uint64_t figures[4]);
 
 /*
- * Windows of jobs: a job of the first place misses when it is later than b from its read to the write at which its way forward ends. misses
- * becomes the largest number of misses in k successive jobs after the first warm-up job W1, over all time, and first the job, counted from
- * 0, with which such a window begins. first is one of the jobs W1 + 1 to W1 + h / T, h being the hyperperiod and T the first place's period;
- * where several windows have as many misses, any of them may be given. b may be any number. One first job costs the same for every k.
+ * Windows of jobs: a job of the first place misses when more than b ticks pass from its read to the write at which its way forward ends.
+ * misses becomes the largest number of misses in k successive jobs after the warm-up job W1, over all time, and first the job, counted
+ * from 0, with which such a window begins. first is one of the jobs W1 + 1 to W1 + h / T, h being the hyperperiod and T the first place's
+ * period; where several windows have as many misses, any of them may be given. b may be any number. The call looks at h / T first jobs,
+ * and each costs the same for every k.
  *
  * Refuses, after the chain's own refusals:
  *   MO_WINDOW_OUTSIDE_LIMITS   k is not 1 to 100.

@@ -2,7 +2,9 @@
 use Prim.Native.Nat.{ℕ, _-_, _≤_, _<_}
 use native.Mathlib.Omega.{arith}
 use mathlib.Core.Path.{_≡_, ap, _∙_}
+use mathlib.Core.List.{List}
 use borrow.Author.Tests.{lt-ltb, le-ltb}
+use Rattle.task.specs.declared.Task.{Task}
 use Rattle.task.specs.Jobs.{readOf, writeOf}
 use Rattle.task.specs.LinkLaws.{read-mono, job-small}
 use Rattle.chain.specs.declared.Chain.{Chain}
@@ -11,6 +13,11 @@ use Rattle.chain.specs.Checks.{Checked}
 use Rattle.timing.specs.WarmRanges.{walk-fits, walk-late}
 use Rattle.timing.proofs.Whole.{first-is, walk-end}
 use Rattle.windows.specs.Windows.{spanOf, misses, one}
+use Rattle.windows.specs.Sliding.{one-small}
+
+-- what `missed` answers is at most 1
+pub flag-small : (l : List Task) (B j v : ℕ) → v ≡ one (misses l B j) → v ≤ 1
+flag-small l B j v e = omega (arith, one-small (misses l B j))
 
 -- jobs of the first place up to one whose write is small
 module _ (c : Chain) (k : Checked c) (j last : ℕ) (upto : j ≤ last) (small : writeOf (at (tasksOf c) 0) last ≤ 1000000000000) where
@@ -20,7 +27,7 @@ module _ (c : Chain) (k : Checked c) (j last : ℕ) (upto : j ≤ last) (small :
   pub number-small : j ≤ 1000000000000
   number-small = omega (arith, write-small, job-small (at (tasksOf c) 0) (k .sound .each 0 (k .sound .some) .period-pos) j)
 
-module _ (c : Chain) (k : Checked c) (j : ℕ) (small : writeOf (at (tasksOf c) 0) j ≤ 1500000000000) where
+module _ (c : Chain) (k : Checked c) (j : ℕ) (small : writeOf (at (tasksOf c) 0) j ≤ 1000000000000) where
   pub read-small : readOf (at (c .tasks) 0) j ≤ 2000000000000
   read-small = rw (first-is c k) (omega arith)
 

@@ -64,6 +64,15 @@ next-inside i k h = elim (decLt (i + 1) k) [ yes g ↦ rw (lt-ltb (i + 1) k g) g
 
 -- ---- the best window
 
+module _ (best : Best) (count : ℕ) (j : Job) where
+  pub better-new : best .misses < count → record { misses = count; first = j } ≡ betterOf best count j
+  unfolding betterOf
+  better-new h = rw (lt-ltb (best .misses) count h)
+
+  pub better-kept : count ≤ best .misses → best ≡ betterOf best count j
+  unfolding betterOf
+  better-kept h = rw (le-ltb (best .misses) count h)
+
 module _ (f : ℕ → ℕ) where
   pub top-first : (s m : ℕ) → m ≡ f s → Top f s s s m
   top-first s m e = record { low = omega arith; high = omega arith; has = sym e; top = λ x a b. let q : x ≡ s = omega arith in rw (q, e) (omega arith) }
@@ -71,13 +80,12 @@ module _ (f : ℕ → ℕ) where
   module _ (from s : ℕ) (best : Best) (t : Top f from s (best .first .0) (best .misses)) (low : from ≤ s) where
     -- one more window is looked at
     pub top-more : (count : ℕ) (j : Job) → j .0 ≡ s + 1 → count ≡ f (s + 1) → Top f from (j .0) (betterOf best count j .first .0) (betterOf best count j .misses)
-    unfolding betterOf
     top-more count j q e = elim (decLt (best .misses) count) [
       | yes h ↦
-          rw (lt-ltb (best .misses) count h)
+          rw (← better-new best count j h)
           (record { low = omega arith; high = omega arith; has = ap f q ∙ sym e; top = λ x a b. each x a (omega arith) count (omega arith) (omega arith) })
       | no h ↦
-          rw (le-ltb (best .misses) count (omega arith))
+          rw (← better-kept best count j (omega arith))
           (record { low = t .low; high = omega (arith, t .high); has = t .has; top = λ x a b. each x a (omega arith) (best .misses) (omega arith) (omega arith) })
     ]
       where

@@ -32,9 +32,10 @@ module _ (miss : ℕ → Bool) where
   slides k s = omega (arith, one-more k s)
 
   -- the job that leaves is counted before
-  pub leaves : (k s : ℕ) → one (miss s) ≤ missesIn miss s k + one (miss (s + k))
+  pub leaves : (k s : ℕ) → 1 ≤ k → one (miss s) ≤ missesIn miss s k
   unfolding missesIn
-  leaves k s = omega (arith, one-more k s)
+  leaves zero s h = absurd (omega arith)
+  leaves (suc k) s h = omega arith
 
   pub at-most : (k s : ℕ) → missesIn miss s k ≤ k
   unfolding missesIn

@@ -17,7 +17,7 @@ use Rattle.timing.specs.WarmUp.{warmAt}
 use Rattle.windows.specs.declared.Windows.{Windows}
 use Rattle.windows.specs.declared.Windows.the-variants.{Most, Refused}
 
--- The forward end of job j of the first place, less its own read.
+-- The forward end of job j of the first place, less its own read, which is never later (`walk-late` in timing/specs/WarmRanges).
 unfoldable pub spanOf : List Task → ℕ → ℕ
 spanOf l j = writeOf (at l (lastPlace l)) (walk l j) - readOf (at l 0) j
 
@@ -25,6 +25,7 @@ spanOf l j = writeOf (at l (lastPlace l)) (walk l j) - readOf (at l 0) j
 unfoldable pub misses : List Task → ℕ → ℕ → Bool
 misses l B j = ltb B (spanOf l j)
 
+-- 1 for a miss, else 0.
 abbrev pub one : Bool → ℕ
 one true = 1
 one false = 0

@@ -33,7 +33,7 @@ pub struct Best {
 
 // 1 where job j of the first place misses, else 0.
 fn missed(c: Chain, b: u64, j: Job) -> u64
-    requires { ⌜ (Checked c) × (writeOf (at (tasksOf c) 0) (j .0) ≤ 1500000000000) ⌝ }
+    requires { ⌜ (Checked c) × (writeOf (at (tasksOf c) 0) (j .0) ≤ 1000000000000) ⌝ }
     ensures { λ r. ⌜ r ≡ one (misses (tasksOf c) b (j .0)) ⌝ }
 {
     let n = c.places - 1;

@@ -1,15 +1,12 @@
-use borrow.Author.Tests.{lt-ltb, le-ltb}
-use Rattle.windows.specs.Slide.{betterOf}
+use Rattle.windows.proofs.Rings.{better-new, better-kept}
 use Rattle.windows.proofs.better.Statement.{statement}
 use Rattle.windows.proofs.better.Tie as tie
 
 returns : tie.Need-returns
-unfolding betterOf
-returns c = rw (lt-ltb _ _ (c .if1 .taken))
+returns c = let a = c .before .before .args in better-new (a .best) (a .count) (a .s) (c .if1 .taken)
 
 returns-2 : tie.Need-returns-2
-unfolding betterOf
-returns-2 c = rw (le-ltb _ _ (c .if1 .left))
+returns-2 c = let a = c .before .before .args in better-kept (a .best) (a .count) (a .s) (c .if1 .left)
 
 pub better-spec : {M : Type 1} → statement M
 better-spec = tie.close (tie.spec returns returns-2)

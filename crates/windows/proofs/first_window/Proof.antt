@@ -4,8 +4,8 @@ use mathlib.Core.Path.{_≡_, refl}
 use Rattle.chain.specs.Chains.{tasksOf, at}
 use Rattle.windows.specs.Windows.{misses, missesIn}
 use Rattle.windows.specs.Slide.{Ring}
-use Rattle.windows.specs.Sliding.{one-small, none-yet, one-more, at-most}
-use Rattle.windows.proofs.Ends.{write-small, number-small}
+use Rattle.windows.specs.Sliding.{none-yet, one-more, at-most}
+use Rattle.windows.proofs.Ends.{flag-small, write-small, number-small}
 use Rattle.windows.proofs.Rings.{ring-none, ring-grows}
 use Rattle.windows.proofs.first_window.Statement.{statement}
 use Rattle.windows.proofs.first_window.Tie as tie
@@ -27,10 +27,7 @@ add-t11 c =
     omega (arith, number-small _ (s .pre .0) (s .args .from .0 + l .i) _ (omega arith) (s .pre .2))
 
 missed-requires : tie.Need-missed-requires Inv-loop μ-loop
-missed-requires c κs =
-    let s = c .before .before .before in
-    let l = c .before .before .loop in
-    (s .pre .0, omega (arith, write-small _ (s .pre .0) (s .args .from .0 + l .i) _ (omega arith) (s .pre .2)))
+missed-requires c κs = let s = c .before .before .before in (s .pre .0, write-small _ (s .pre .0) _ _ (omega arith) (s .pre .2))
 
 mul-flags : tie.Need-mul-flags Inv-loop μ-loop
 mul-flags c = omega arith
@@ -42,7 +39,7 @@ add-count : tie.Need-add-count Inv-loop μ-loop
 add-count c =
     let s = c .before .before .before .before in
     let l = c .before .before .before .loop in
-    omega (arith, c .missed .ensures, one-small (misses (tasksOf (s .args .c)) (s .args .b) (s .args .from .0 + l .i)), l .inv .2, at-most (misses (tasksOf (s .args .c)) (s .args .b)) (l .i) (s .args .from .0))
+    omega (arith, flag-small _ _ _ _ (c .missed .ensures), l .inv .2, at-most (misses (tasksOf (s .args .c)) (s .args .b)) (l .i) (s .args .from .0))
 
 add-i : tie.Need-add-i Inv-loop μ-loop
 add-i c = omega arith

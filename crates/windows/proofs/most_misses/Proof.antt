@@ -71,7 +71,10 @@ slide-requires c κs =
     (facts v .passes, fine v .low, fine v .high, omega (arith, some-start _ _ _ (facts v) (fine v) _ (warm (c .before .before .before .before .before))), range-fits _ _ _ (facts v) (fine v) _ (warm (c .before .before .before .before .before)))
 
 returns-2 : tie.Need-returns-2
-returns-2 c = windows-most _ _ _ (facts (c .before .before .before .before .before .before .before .before)) (fine (c .before .before .before .before .before .before .before .before)) _ (warm (c .before .before .before .before .before .before .before)) _ _ _ (yes (c .before .before .before .before .before .before .before .before)) (c .before .slide .ensures)
+returns-2 c =
+    let v = c .before .before .before .before .before .before .before .before in
+    let a = v .before .before .before .before .before .args in
+    windows-most (a .t1) (a .k) _ (facts v) (fine v) _ (warm (c .before .before .before .before .before .before .before)) (a .b) (c .before .slide .result .misses) (c .before .slide .result .first) (yes v) (c .before .slide .ensures)
 
 pub most-misses-spec : {M : Type 1} → statement M
 most-misses-spec =

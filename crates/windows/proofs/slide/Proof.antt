@@ -5,8 +5,8 @@ use lib.ListN.{getD}
 use Rattle.chain.specs.Chains.{tasksOf, at}
 use Rattle.windows.specs.Windows.{misses, windowOf}
 use Rattle.windows.specs.Slide.{Ring, Top}
-use Rattle.windows.specs.Sliding.{one-small, slides, leaves, at-most}
-use Rattle.windows.proofs.Ends.{write-small, number-small}
+use Rattle.windows.specs.Sliding.{slides, leaves, at-most}
+use Rattle.windows.proofs.Ends.{flag-small, write-small, number-small}
 use Rattle.windows.proofs.Rings.{ring-first, ring-turns, next-inside, top-first, top-more}
 use Rattle.windows.proofs.slide.Statement.{statement}
 use Rattle.windows.proofs.slide.Tie as tie
@@ -35,10 +35,7 @@ add-old c =
     omega (arith, number-small _ (s .pre .0) (l .s .0 + s .args .k) _ (omega arith) (s .pre .4))
 
 missed-requires : tie.Need-missed-requires Inv-loop μ-loop
-missed-requires c κs =
-    let s = c .before .before .before .before .before .before .before in
-    let l = c .before .before .before .before .loop in
-    (s .pre .0, omega (arith, write-small _ (s .pre .0) (l .s .0 + s .args .k) _ (omega arith) (s .pre .4)))
+missed-requires c κs = let s = c .before .before .before .before .before .before .before in (s .pre .0, write-small _ (s .pre .0) _ _ (omega arith) (s .pre .4))
 
 mul-old : tie.Need-mul-old Inv-loop μ-loop
 mul-old c = omega arith
@@ -56,13 +53,13 @@ add-count : tie.Need-add-count Inv-loop μ-loop
 add-count c =
     let s = c .before .before .before .before .before .before .before .before in
     let l = c .before .before .before .before .before .loop in
-    omega (arith, c .missed .ensures, one-small (misses (tasksOf (s .args .c)) (s .args .b) (l .s .0 + s .args .k)), l .inv .4, at-most (misses (tasksOf (s .args .c)) (s .args .b)) (s .args .k) (l .s .0), s .pre .2)
+    omega (arith, flag-small _ _ _ _ (c .missed .ensures), l .inv .4, at-most (misses (tasksOf (s .args .c)) (s .args .b)) (s .args .k) (l .s .0), s .pre .2)
 
 sub-count : tie.Need-sub-count Inv-loop μ-loop
 sub-count c =
     let s = c .before .before .before .before .before .before .before .before in
     let l = c .before .before .before .before .before .loop in
-    omega (arith, c .missed .ensures, l .inv .4, ring-first _ _ _ _ _ (l .inv .3) (l .inv .2) (s .pre .2), leaves (misses (tasksOf (s .args .c)) (s .args .b)) (s .args .k) (l .s .0))
+    omega (arith, l .inv .4, ring-first _ _ _ _ _ (l .inv .3) (l .inv .2) (s .pre .2), leaves (misses (tasksOf (s .args .c)) (s .args .b)) (s .args .k) (l .s .0) (s .pre .1))
 
 add-t16 : tie.Need-add-t16 Inv-loop μ-loop
 add-t16 c =
