@@ -16,6 +16,7 @@ pub record Ring (miss : ℕ → Bool) (k s i : ℕ) (flags : List ℕ) : Type 0 
   pub ahead : (x j : ℕ) → i ≤ x → x < k → j + i ≡ s + x → getD flags x 0 ≡ one (miss j)
   pub behind : (x j : ℕ) → x < i → j + i ≡ s + k + x → getD flags x 0 ≡ one (miss j)
 
+-- The window of the k jobs from s on: its flags, and its number of misses.
 pub record FirstWindow (miss : ℕ → Bool) (s k : ℕ) (r : Flagged) : Type 0 where
   pub flagged : Ring miss k s 0 (r .flags)
   pub counted : r .misses ≡ missesIn miss s k

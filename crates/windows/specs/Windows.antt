@@ -64,6 +64,7 @@ abbrev pub afterLimits : Verdict → ℕ → Verdict
 afterLimits (verdict.Refused r) k = verdict.Refused r
 afterLimits (verdict.Accepted h) k = cond (leb 1 k && leb k 100) (verdict.Accepted h) (verdict.Refused (refusal 15 0))
 
+-- The checks of the call, in this order.
 unfoldable pub judged : Chain → ℕ → Verdict
 judged c k = afterLimits (verdictOf c) k
 
