@@ -13,6 +13,7 @@
  *   libcapi_figures.a   mo_greatest, mo_low, mo_mean, mo_throughput, mo_exceedance
  *   libcapi_timing.a    mo_check, mo_warm_up, mo_delay, mo_age
  *   libcapi_maker.a     mo_make_table
+ *   libcapi_windows.a   mo_windows
  */
 #ifndef MESHORCHARD_H
 #define MESHORCHARD_H
@@ -36,6 +37,7 @@ extern "C" {
 #define MO_TICK_TOO_EARLY 12u          /* reading a table: below the first start; a chain: below its first tick for the call */
 #define MO_TICK_TOO_LATE 13u           /* above MO_UPPER_TICK */
 #define MO_TABLE_NOT_WELL_FORMED 14u
+#define MO_WINDOW_OUTSIDE_LIMITS 15u   /* windows: k is not 1 to 100 */
 
 /*
  * Every call but mo_read_table answers a code: 0 for a success, else a refusal's number and 256 times its place. The place is 0 but for
@@ -124,7 +126,7 @@ uint64_t mo_exceedance(const uint64_t *starts, size_t starts_length,
  *   MO_PLACES_OUTSIDE_LIMITS   places is not 1 to 12, tasks_length is no multiple of 3, or it is below 3 * places;
  *   MO_TASK_OUTSIDE_LIMITS     T is not 1 to 1,000,000, D not 1 to 4,000,000 or F above 1,000,000; at the lowest such place, from 1;
  *   MO_HYPERPERIOD_TOO_LONG    the least common multiple of the periods at the places is above 60,000,000;
- * mo_make_table goes on as it says, and mo_delay and mo_age after these with
+ * mo_make_table and mo_windows go on as they say, and mo_delay and mo_age after these with
  *   MO_TICK_TOO_EARLY          the tick is below the warm-up tick for mo_delay, below the write of the last warm-up job for mo_age;
  *   MO_TICK_TOO_LATE           the tick is above MO_UPPER_TICK.
  */
@@ -160,6 +162,19 @@ uint64_t mo_age(const uint64_t *tasks, size_t tasks_length, size_t places, uint6
 uint64_t mo_make_table(const uint64_t *tasks, size_t tasks_length, size_t places, size_t p,
                        uint64_t *starts, size_t starts_length,
                        uint64_t *latencies, size_t latencies_length, uint64_t figures[4]);
+
+/*
+ * Windows of jobs: a job of the first place misses when more than b ticks pass from its read to the write at which its way forward ends.
+ * misses becomes the largest number of misses in k successive jobs after the warm-up job W1, over all time, and first the job, counted
+ * from 0, with which such a window begins. first is one of the jobs W1 + 1 to W1 + h / T, h being the hyperperiod and T the first place's
+ * period; where several windows have as many misses, any of them may be given. b may be any number. The call looks at h / T first jobs,
+ * and each costs the same for every k.
+ *
+ * Refuses, after the chain's own refusals:
+ *   MO_WINDOW_OUTSIDE_LIMITS   k is not 1 to 100.
+ */
+uint64_t mo_windows(const uint64_t *tasks, size_t tasks_length, size_t places, uint64_t b, uint64_t k,
+                    uint64_t *misses, uint64_t *first);
 
 #ifdef __cplusplus
 }

@@ -139,6 +139,46 @@ def making_refused(ours, r, factor, compare):
             compare_making(ours, r, tasks, numbers, p, (size, size + r.choice([0, 0, 1])), compare)
 
 
+def window_bounds(r, tasks, warm):
+    """Bounds around the real spans of a job after W1, from its read to its forward end, and the ends of 64 bits."""
+    bounds = [0, library.LARGEST, r.randint(0, 100)]
+    if warm[0] == "ok":
+        j = warm[1][0] + 1 + r.randrange(warm[3] // tasks[0][0])
+        span = reference.write_of(tasks[-1], reference.forward(tasks, 1, j)) - reference.read_of(tasks[0], j)
+        bounds += 3 * [span - 1, span, span + 1]
+    return bounds
+
+
+def compare_windows(ours, numbers, tasks, b, k, compare):
+    """One answer: the number of misses is the reference's, and the first job one of all that it finds."""
+    mine, theirs = ours.windows(numbers, len(tasks), b, k), reference.windows(tasks, b, k)
+    if theirs[0] == "ok" and mine[0] == "ok" and mine[2] in theirs[2]:
+        theirs = (*theirs[:2], mine[2])
+    compare.same(mine, theirs, "windows", tasks, b, k)
+
+
+@group
+def windows(ours, r, factor, compare):
+    """windows of jobs"""
+    for i in range(int(10000 * factor)):
+        tasks = inputs.wide_window_chain(r) if i % 25 == 0 else inputs.cut_chain(r)
+        numbers, warm = lent(r, tasks), reference.warm_up(tasks)
+        for k in r.sample([0, 1, 2, 3, r.randint(4, 12), r.randint(4, 100), 99, 100, 101, library.LARGEST], 4):
+            compare_windows(ours, numbers, tasks, r.choice(window_bounds(r, tasks, warm)), k, compare)
+
+
+@group
+def windows_refused(ours, r, factor, compare):
+    """windows refused: chains, and k outside its limits"""
+    for _ in range(int(2000 * factor)):
+        tasks = inputs.any_chain(r)
+        if reference.check_chain(tasks)[0] == "ok":
+            tasks = [*tasks, *tasks, inputs.faulty_task(r)] if r.random() < 0.5 else inputs.cut_chain(r)
+        numbers = lent(r, tasks)
+        for k in (0, 1, 101, 2**32 + 1, library.LARGEST):
+            compare_windows(ours, numbers, tasks, inputs.any_number(r), k, compare)
+
+
 def compare_figures(ours, lent, table, compare):
     for name in ("greatest", "low", "mean", "throughput"):
         compare.same(getattr(ours, name)(lent), getattr(reference, name)(*table), name, table)

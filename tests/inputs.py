@@ -274,6 +274,14 @@ def cut_chain(r):
             return tasks
 
 
+def wide_window_chain(r):
+    """A chain whose first place has up to some thousand jobs in a hyperperiod, more than a window holds."""
+    while True:
+        tasks = [(r.randint(1, 60), r.randint(1, 90), r.randint(0, 90)) for _ in range(r.choice([2, 3, 4]))]
+        if 100 < math.lcm(*[t for t, _, _ in tasks]) // tasks[0][0] <= 3000:
+            return tasks
+
+
 def lent_lists(r, n, m):
     """Two lent lists of these lengths, with rubbish in them."""
     return [r.randint(0, LARGEST) for _ in range(n)], [r.randint(0, LARGEST) for _ in range(m)]

@@ -46,7 +46,7 @@ def table(starts, latencies, g, h):
 class Library:
     def __init__(self, path):
         self.c = ctypes.CDLL(path)
-        for name in ("mo_check", "mo_warm_up", "mo_delay", "mo_age", "mo_make_table", "mo_read_table", "mo_greatest", "mo_low", "mo_mean", "mo_throughput", "mo_exceedance"):
+        for name in ("mo_check", "mo_warm_up", "mo_delay", "mo_age", "mo_make_table", "mo_read_table", "mo_greatest", "mo_low", "mo_mean", "mo_throughput", "mo_exceedance", "mo_windows"):
             getattr(self.c, name).restype = U64
 
     def numbers(self, call, count, *arguments):
@@ -69,6 +69,9 @@ class Library:
 
     def age(self, flat, places, z):
         return self.one(self.c.mo_age, *words(flat), SIZE(places), U64(z))
+
+    def windows(self, flat, places, b, k):
+        return self.numbers(self.c.mo_windows, 2, *words(flat), SIZE(places), U64(b), U64(k))
 
     def warm_up(self, flat, places):
         jobs, tick, hyper = (U64 * 12)(*[77] * 12), U64(78), U64(79)

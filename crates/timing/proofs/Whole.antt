@@ -38,6 +38,11 @@ module _ (c : Chain) (k : Checked c) where
   pub walk-is : (j : ℕ) → forwardBy (tasksOf c) 0 (c .places - 1 - 0) j ≡ walk (tasksOf c) j
   walk-is j = ap (λ (n : ℕ). forwardBy (tasksOf c) 0 n j) steps
 
+  -- the write at which the whole way from a job ends
+  pub walk-end : (j m : ℕ) → m ≡ forwardBy (tasksOf c) 0 (c .places - 1 - 0) j
+      → writeOf (at (c .tasks) (c .places - 1)) m ≡ writeOf (at (tasksOf c) (lastPlace (tasksOf c))) (walk (tasksOf c) j)
+  walk-end j m e = rw last-is (ap (writeOf (at (tasksOf c) (lastPlace (tasksOf c)))) (e ∙ walk-is j))
+
   pub back-is : (m : ℕ) → backwardBy (tasksOf c) 0 (c .places - 1 - 0) m ≡ back (tasksOf c) m
   back-is m = ap (λ (n : ℕ). backwardBy (tasksOf c) 0 n m) steps
 
@@ -103,7 +108,7 @@ module _ (c : Chain) (k : Checked c) where
 
     module _ (m : ℕ) (end : m ≡ forwardBy (tasksOf c) 0 (c .places - 1 - 0) j) where
       ended : writeOf (at (c .tasks) (c .places - 1)) m ≡ writeOf (at (tasksOf c) (lastPlace (tasksOf c))) (walk (tasksOf c) j)
-      ended = rw last-is (ap (writeOf (at (tasksOf c) (lastPlace (tasksOf c)))) (end ∙ walk-is j))
+      ended = walk-end j m end
 
       pub end-small : writeOf (at (c .tasks) (c .places - 1)) m ≤ 2000000000000
       end-small = omega (arith, ended, walk-fits (tasksOf c) (k .sound) j, press-small)

@@ -1,0 +1,33 @@
+// Windows of jobs for C and for hosts: plain numbers and lists of numbers. include/meshorchard.h declares the call and says how to use it.
+use windows::Windows;
+ghost use mathlib.Core.Path.{_≡_};
+ghost use Prim.Native.Nat.{_+_, _*_, _≤_, _<_};
+ghost use Rattle.capi_chain.specs.FlatChain.{chainFrom};
+ghost use Rattle.capi_windows.specs.Calls.{GivesWindows};
+
+// The largest number of misses of b in k successive jobs of the first place, and the first job of a window with that many.
+#[no_mangle]
+pub extern "C" fn mo_windows(
+    tasks: &[u64],
+    places: usize,
+    b: u64,
+    k: u64,
+    misses: &mut u64,
+    first: &mut u64,
+) -> u64
+    ensures { λ r. ⌜ GivesWindows (chainFrom (now (tasks .entry)) places) b k r (now (misses .exit)) (now (first .exit)) ⌝ }
+{
+    let w = windows::most_misses(capi_chain::chain_from(tasks, places), b, k);
+    match w {
+        Windows::Most(m, j) => {
+            *misses = m;
+            *first = j.0;
+            0
+        }
+        Windows::Refused(r) => {
+            *misses = 0;
+            *first = 0;
+            r.code()
+        }
+    }
+}

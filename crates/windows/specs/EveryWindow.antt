@@ -1,0 +1,105 @@
+-- Every window of jobs after the warm-up job, over all time: misses repeat with the hyperperiod (`misses-period`), so no window has more than
+-- the largest over one hyperperiod of first jobs (`largest-of-all`), and one has as many (`largest-reached`).
+use Prim.Native.Nat.{ℕ, zero, suc, _+_, _-_, _*_, _/_, _%_, _≤_, _<_}
+use native.Mathlib.Omega.{arith}
+use native.Mathlib.Nat.{mod-lt, div-add-mod'}
+use native.Mathlib.Decide.{decLe}
+use mathlib.Core.Path.{_≡_, refl, ap, _∙_}
+use mathlib.Core.List.{List}
+use lib.Dec.{ltb}
+use Rattle.task.specs.declared.Task.{Task}
+use Rattle.task.specs.Jobs.{writeOf}
+use Rattle.chain.specs.Chains.{at, lastPlace, walk}
+use Rattle.chain.specs.Hyperperiod.{hyperOf}
+use Rattle.chain.specs.Multiples.{hyper-times, from-pos}
+use Rattle.chain.specs.Checks.{Sound}
+use Rattle.timing.specs.WarmUp.{warmAt}
+use Rattle.timing.specs.Period.{walk-period}
+use Rattle.windows.specs.Windows.{spanOf, misses, one, missesIn, largest, starts, windowOf, mostMisses, First}
+use Rattle.windows.specs.Sliding.{largest-top}
+
+-- f has its largest among the n numbers from s on
+record Reached (f : ℕ → ℕ) (s n : ℕ) : Type 0 where
+  at-job : ℕ
+  low : s ≤ at-job
+  high : at-job < s + n
+  is : f at-job ≡ largest f s n
+
+reached : (f : ℕ → ℕ) (n s : ℕ) → 1 ≤ n → Reached f s n
+unfolding largest
+reached f zero s h = absurd (omega arith)
+reached f (suc zero) s h = record { at-job = s; low = omega arith; high = omega arith; is = omega arith }
+reached f (suc (suc n)) s h = go (reached f (suc n) (suc s) (omega arith))
+  where
+    go : Reached f (suc s) (suc n) → Reached f s (suc (suc n))
+    go r = elim (decLe (largest f (suc s) (suc n)) (f s)) [
+      | yes g ↦ record { at-job = s; low = omega arith; high = omega arith; is = omega arith }
+      | no g ↦ record { at-job = r .at-job; low = omega (arith, r .low); high = omega (arith, r .high); is = r .is ∙ omega arith }
+    ]
+
+-- ---- of a chain that passes the checks 8 and 5
+
+module _ (l : List Task) (ok : Sound l) where
+  -- there is a first job
+  pub starts-pos : 1 ≤ starts l
+  starts-pos = elim (decLe 1 (starts l)) [
+    | yes h ↦ h
+    | no h ↦
+        let z : starts l ≡ 0 = omega arith in
+        let e = hyper-times l 0 (ok .some) in
+        let g = rw z at e in
+        omega (arith, from-pos l 1 (omega arith) (λ p u. ok .each p u .period-pos))
+  ]
+
+  -- A hyperperiod later a job's forward end is a hyperperiod later,
+  pub span-period : (j : ℕ) → warmAt l 0 < j → spanOf l (j + starts l) ≡ spanOf l j
+  unfolding spanOf
+  span-period j h =
+      let w : writeOf (at l (lastPlace l)) (walk l (j + starts l)) ≡ writeOf (at l (lastPlace l)) (walk l j + hyperOf l / at l (lastPlace l) .period)
+      = ap (writeOf (at l (lastPlace l))) (walk-period l ok j h) in
+      omega (arith, w, hyper-times l (lastPlace l) (omega (arith, ok .some)), hyper-times l 0 (ok .some))
+
+  module _ (B : ℕ) where
+    -- so it misses again,
+    pub misses-period : (j : ℕ) → warmAt l 0 < j → misses l B (j + starts l) ≡ misses l B j
+    unfolding misses
+    misses-period j h = ap (ltb B) (span-period j h)
+
+    -- and a window has as many misses,
+    pub window-period : (k s : ℕ) → warmAt l 0 < s → windowOf l B k (s + starts l) ≡ windowOf l B k s
+    unfolding missesIn
+    window-period zero s h = refl
+    window-period (suc k) s h =
+        let a = ap one (misses-period s h) in
+        let e : suc s + starts l ≡ suc (s + starts l) = omega arith in
+        let b = window-period k (suc s) (omega arith) in
+        omega (arith, rw e at b)
+
+    -- after any number of hyperperiods.
+    pub window-periods : (k m s : ℕ) → warmAt l 0 < s → windowOf l B k (s + m * starts l) ≡ windowOf l B k s
+    window-periods k zero s h = let e : s + 0 * starts l ≡ s = omega arith in rw e
+    window-periods k (suc m) s h =
+        let e : s + suc m * starts l ≡ s + m * starts l + starts l = omega arith in
+        rw e (window-period k (s + m * starts l) (omega arith) ∙ window-periods k m s h)
+
+    -- No k successive jobs after W1 have more misses, over all time,
+    pub largest-of-all : (k s : ℕ) → warmAt l 0 < s → windowOf l B k s ≤ mostMisses l B k
+    unfolding mostMisses
+    largest-of-all k s h =
+        let q : ℕ = starts l in
+        let d : ℕ = s - (warmAt l 0 + 1) in
+        let r = mod-lt d starts-pos in
+        let e : s ≡ warmAt l 0 + 1 + d % q + d / q * q = omega (arith, div-add-mod' d q) in
+        let p = window-periods k (d / q) (warmAt l 0 + 1 + d % q) (omega arith) in
+        rw (e, p) (largest-top (windowOf l B k) q (warmAt l 0 + 1) (warmAt l 0 + 1 + d % q) (omega arith) (omega arith))
+
+    -- and there is a first job of a window with that many, so that the call has a choice.
+    pub record Attained (k : ℕ) : Type 0 where
+      pub job : ℕ
+      pub is : First l B k job
+
+    pub largest-reached : (k : ℕ) → Attained k
+    unfolding mostMisses
+    largest-reached k =
+        let r = reached (windowOf l B k) (starts l) (warmAt l 0 + 1) starts-pos in
+        record { job = r .at-job; is = record { after = r .low; within = omega (arith, r .high); has = r .is } }

@@ -1,0 +1,5 @@
+pub mod Windows
+pub mod Slide
+pub mod Sliding
+pub mod EveryWindow
+pub mod Survey
