@@ -1,11 +1,19 @@
 -- Document 01, program `chainreport`: lines of text as bytes. A line is a word and numbers, one blank before each number, and ends with one LF.
 use Prim.Native.Nat.{ℕ, zero, suc, _+_, _/_, _%_}
+use Prim.Native.Char.{code}
+use Prim.Native.String as string
+use Prim.Native.String.{String}
 use mathlib.Core.Path.{_≡_}
 use mathlib.Core.Bool.{cond}
 use mathlib.Core.List.{List, [], _∷_, _++_}
 use lib.Dec.{ltb}
 use lib.ListN.{length}
 use lib.Seq.{sets}
+
+-- The bytes of a text of ASCII characters.
+abbrev pub ascii : String → List ℕ
+ascii string.[] = []
+ascii (string._∷_ c s) = code c ∷ ascii s
 
 abbrev pub blank : ℕ
 blank = 32

@@ -7,9 +7,6 @@ use borrow.Author.Needs.{needs}
 use Rattle.text.proofs.Turns.{word-turn, word-end}
 use Rattle.text.proofs.put_word.Statement.{statement}
 use Rattle.text.proofs.put_word.Tie as tie
-use Rattle.text.proofs.put_word.Reads as reads
-use Rattle.text.proofs.put_word.Lts as lts
-use Rattle.text.proofs.store.Reads as store-reads
 
 abbrev Inv-loop : tie.InvT-loop
 Inv-loop out₀ at word i₀ out i = (i ≤ length word) × (length out ≡ length out₀) × (sets out₀ at word ≡ sets out (at + i) (drop i word))

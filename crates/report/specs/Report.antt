@@ -1,0 +1,69 @@
+-- Document 01, program `chainreport`: the whole text for the bytes of a schedule file.
+use Prim.Native.Nat.{ℕ, _+_, max}
+use mathlib.Core.Bool.{cond}
+use mathlib.Core.List.{List, [], _∷_, _++_, map}
+use lib.Dec.{eqb}
+use Rattle.refusal.specs.declared.Refusal.{Refusal}
+use Rattle.refusal.specs.Refusals.{refusal}
+use Rattle.task.specs.declared.Task.{Task}
+use Rattle.chain.specs.declared.Chain.{Chain}
+use Rattle.chain.specs.Chains.{tasksOf}
+use Rattle.schedule.specs.Schedules.{positionOf, chainOf}
+use Rattle.file_reader.specs.declared.FileRead.{FileRead}
+use Rattle.file_reader.specs.Reading.{readFile}
+use Rattle.table.specs.Anchors.{Anchor}
+use Rattle.table.specs.Figures.{greatest, low}
+use Rattle.figures.specs.Figures.{delaySum}
+use Rattle.maker.specs.declared.Figures.{Figures}
+use Rattle.maker.specs.declared.Made.{Made}
+use Rattle.maker.specs.declared.Made.the-variants.{Whole, Short, Refused}
+use Rattle.maker.specs.Making.{madeOf, writtenOf}
+use Rattle.text.specs.Text.{ascii, line}
+
+-- The place of the longest period, counted from 1; the lowest place among equals.
+unfoldable pub longestPeriod : List Task → ℕ
+longestPeriod [] = 0
+longestPeriod (t ∷ l) = max (t .period) (longestPeriod l)
+
+unfoldable pub longestPlace : List Task → ℕ
+longestPlace l = positionOf (longestPeriod l) (map (λ (t : Task). t .period) l) + 1
+
+-- A refusal prints one line: number and place.
+unfoldable pub refusedText : Refusal → List ℕ
+refusedText r = line (ascii "refused") (r .number ∷ r .place ∷ [])
+
+-- Each anchor: start, latency.
+unfoldable pub anchorLines : List Anchor → List ℕ
+anchorLines [] = []
+anchorLines (a ∷ l) = line (ascii "a") (a .start ∷ a .latency ∷ []) ++ anchorLines l
+
+-- Warm-up tick, H, g; each anchor; greatest, low, mean; walked.
+unfoldable pub headText : Figures → List ℕ
+headText f = line (ascii "warm") (f .tick .0 ∷ []) ++ (line (ascii "hyper") (f .hyperperiod ∷ []) ++ line (ascii "anchors") (f .anchors ∷ []))
+
+unfoldable pub figuresText : ℕ → List Anchor → List ℕ
+figuresText H l = line (ascii "max") (greatest l ∷ []) ++ (line (ascii "low") (low H l ∷ []) ++ line (ascii "mean") (delaySum H l ∷ H ∷ []))
+
+unfoldable pub tableText : Figures → List Anchor → List ℕ
+tableText f l = headText f ++ (anchorLines l ++ (figuresText (f .hyperperiod) l ++ line (ascii "walked") (f .walked ∷ [])))
+
+-- What making answered. Where the slots do not hold all anchors the one line is that of 11, which has no place.
+unfoldable pub madeText : Made → List Anchor → List ℕ
+madeText (Whole f) l = tableText f l
+madeText (Short f) l = refusedText (refusal 11 0)
+madeText (Refused r) l = refusedText r
+
+-- A chain is cut at the longest period and made with so many slots.
+unfoldable pub chainText : ℕ → Chain → List ℕ
+chainText slots c = madeText (madeOf c (longestPlace (tasksOf c)) slots slots) (writtenOf c (longestPlace (tasksOf c)) slots slots)
+
+-- 1,024 slots.
+unfoldable pub fileText : FileRead → List ℕ
+fileText r = cond (eqb (r .refusal .number) 0) (chainText 1024 (chainOf (r .schedule))) (refusedText (r .refusal))
+
+abbrev pub reportOf : List ℕ → List ℕ
+reportOf bytes = fileText (readFile bytes)
+
+-- No text is longer: `report` promises it. 1,024 lines of an anchor have at most 44 bytes each, a 64-bit number having at most 20 digits.
+abbrev pub longestText : ℕ
+longestText = 46000
