@@ -19,11 +19,11 @@ use Rattle.table.specs.WellFormed.{wellFormed}
 use Rattle.maker.specs.declared.Figures.{Figures}
 use Rattle.maker.specs.declared.Made.{Made}
 use Rattle.maker.specs.declared.Made.the-variants.{Whole, Short, Refused}
-use Rattle.maker.specs.Making.{madeOf, writtenAfter, writtenOf, overlay, Makes}
+use Rattle.maker.specs.Making.{madeOf, writtenAfter, writtenOf, Makes}
 use Rattle.maker.proofs.Lists.{sets-overlay}
 use Rattle.agreement.specs.MadeTable.{Completed, done, starts-length, latencies-length, made-anchors, made-well-formed}
 use Rattle.text.specs.Text.{Puts}
-use Rattle.report.specs.Report.{longestPlace, refusedText, tableText, madeText, chainText, fileText, longestText}
+use Rattle.report.specs.Report.{longestPlace, refusedText, tableText, madeText, chainText, fileText, reportOf, longestText, Reports}
 
 module _ (c : Chain) (twelve : length (c .tasks) ≡ 12) (p : ℕ) (s v s′ v′ : List ℕ) (m : Made) (long : length s ≡ 1024) (wide : length v ≡ 1024)
     (place : p ≡ longestPlace (tasksOf c)) (makes : Makes c p s v s′ v′ m) where
@@ -81,9 +81,9 @@ module _ (r : FileRead) where
   file-read h = rw (eq-eqb (r .refusal .number) 0 h)
 
 -- a text from the front, as the answer and the lent bytes show it
-pub reported : (text whole old new : List ℕ) (n : ℕ) → text ≡ whole → Puts text 0 old new n → n ≤ longestText → (n ≡ length whole) × (new ≡ overlay whole old) × (n ≤ longestText)
-reported text whole old new n e p h = (
-  p .ends ∙ (omega arith) ∙ ap length e,
-  p .leaves ∙ ap (sets old 0) e ∙ sets-overlay whole old,
-  h,
-)
+pub reported : (bytes text old new : List ℕ) (n : ℕ) → text ≡ reportOf bytes → Puts text 0 old new n → n ≤ longestText → Reports bytes old new n
+reported bytes text old new n e p h = record {
+  answers = p .ends ∙ (omega arith) ∙ ap length e;
+  leaves = p .leaves ∙ ap (sets old 0) e ∙ sets-overlay (reportOf bytes) old;
+  short = h;
+}

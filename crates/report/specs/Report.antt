@@ -1,8 +1,10 @@
 -- Document 01, program `chainreport`: the whole text for the bytes of a schedule file.
-use Prim.Native.Nat.{ℕ, _+_, max}
+use Prim.Native.Nat.{ℕ, _+_, _≤_, max}
+use mathlib.Core.Path.{_≡_}
 use mathlib.Core.Bool.{cond}
 use mathlib.Core.List.{List, [], _∷_, _++_, map}
 use lib.Dec.{eqb}
+use lib.ListN.{length}
 use Rattle.refusal.specs.declared.Refusal.{Refusal}
 use Rattle.refusal.specs.Refusals.{refusal}
 use Rattle.task.specs.declared.Task.{Task}
@@ -17,7 +19,7 @@ use Rattle.figures.specs.Figures.{delaySum}
 use Rattle.maker.specs.declared.Figures.{Figures}
 use Rattle.maker.specs.declared.Made.{Made}
 use Rattle.maker.specs.declared.Made.the-variants.{Whole, Short, Refused}
-use Rattle.maker.specs.Making.{madeOf, writtenOf}
+use Rattle.maker.specs.Making.{madeOf, writtenOf, overlay}
 use Rattle.text.specs.Text.{ascii, line}
 
 -- The place of the longest period, counted from 1; the lowest place among equals.
@@ -67,3 +69,9 @@ reportOf bytes = fileText (readFile bytes)
 -- No text is longer: `report` promises it. 1,024 lines of an anchor have at most 44 bytes each, a 64-bit number having at most 20 digits.
 abbrev pub longestText : ℕ
 longestText = 46000
+
+-- What `report` answers and leaves: the answer is the text's length; the lent bytes hold the text, as much of it as fits, and past it what was there.
+pub record Reports (bytes old new : List ℕ) (answer : ℕ) : Type 0 where
+  pub answers : answer ≡ length (reportOf bytes)
+  pub leaves : new ≡ overlay (reportOf bytes) old
+  pub short : answer ≤ longestText

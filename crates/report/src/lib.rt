@@ -16,9 +16,8 @@ ghost use Rattle.table.specs.Anchors.{anchors};
 ghost use Rattle.table.specs.WellFormed.{wellFormed};
 ghost use Rattle.table.specs.Figures.{greatest, low};
 ghost use Rattle.figures.specs.Figures.{delaySum};
-ghost use Rattle.maker.specs.Making.{overlay};
 ghost use Rattle.text.specs.Text.{Puts};
-ghost use Rattle.report.specs.Report.{longestPlace, refusedText, anchorLines, headText, figuresText, tableText, chainText, reportOf, longestText};
+ghost use Rattle.report.specs.Report.{longestPlace, refusedText, anchorLines, headText, figuresText, tableText, chainText, longestText, Reports};
 
 // The place of the longest period, counted from 1; the lowest among equals.
 fn longest_place(c: Chain) -> usize
@@ -155,7 +154,7 @@ fn put_chain(out: &mut [u8], c: Chain, starts: &mut [u64], latencies: &mut [u64]
 // The report of a schedule file. The answer is the length of the text; the lent bytes hold the first bytes of it that fit, and past it what was there.
 // No text is longer than 46,000 bytes, so that many lent bytes hold every report.
 pub fn report(bytes: &[u8], out: &mut [u8]) -> usize
-    ensures { λ n. ⌜ (n ≡ length (reportOf (now (bytes .entry)))) × (now (out .exit) ≡ overlay (reportOf (now (bytes .entry))) (now (out .entry))) × (n ≤ longestText) ⌝ }
+    ensures { λ n. ⌜ Reports (now (bytes .entry)) (now (out .entry)) (now (out .exit)) n ⌝ }
 {
     let read = file_reader::read_file(bytes);
     let refusal = read.refusal;
