@@ -20,7 +20,7 @@ use Rattle.file_reader.specs.Reading.{chainField, recordOf, refusedFile,
 use Rattle.file_reader.specs.Records.{IsTask, IsChain, tells}
 use Rattle.file_reader.proofs.Fields.{length-numbers}
 
-map-snoc : (ts : List NumberedTask) (t : NumberedTask) → map numberOf (ts ++ (t ∷ [])) ≡ map numberOf ts ++ (t .number ∷ [])
+pub map-snoc : (ts : List NumberedTask) (t : NumberedTask) → map numberOf (ts ++ (t ∷ [])) ≡ map numberOf ts ++ (t .number ∷ [])
 map-snoc [] t = refl
 map-snoc (x ∷ ts) t = ap (λ (r : List ℕ). x .number ∷ r) (map-snoc ts t)
 

@@ -180,7 +180,7 @@ fn record_of(rest: &[u8], numbers: &[u64], count: usize, places: usize) -> Recor
 // ---- the file
 
 // A refusal gives a schedule of zeros.
-fn refused(number: u64, place: usize) -> FileRead
+pub fn refused(number: u64, place: usize) -> FileRead
     ensures { λ r. ⌜ r ≡ refusedFile number place ⌝ }
 {
     let zero = NumberedTask {

@@ -95,18 +95,18 @@ module _ (s : Schedule) (lent : ℕ) where
                 at (suc n) g = refl
 
             module _ (known-all : firstUnknown 1 (map numberOf (tasksIn s)) (placesIn s) ≡ 0) (long : ℕ) (is : long ≡ length (fileBytes s)) where
-              places-right : lengthVerdict long lent ≡ writtenOf s lent
-              places-right =
+              pub length-judged : lengthVerdict long lent ≡ writtenOf s lent
+              length-judged =
                   ap (λ (n : ℕ). lengthVerdict n lent) is
                   ∙ ap (λ (n : ℕ). afterFault 6 n (lengthVerdict (length (fileBytes s)) lent)) (sym known-all) ∙ tasks-right
 
               pub too-short : lent < long → Refused (refusal 11 0) ≡ writtenOf s lent
               unfolding lengthVerdict
-              too-short h = ap (λ (b : Bool). cond b (Bytes long) (Refused (refusal 11 0))) (sym (lt-leb long lent h)) ∙ places-right
+              too-short h = ap (λ (b : Bool). cond b (Bytes long) (Refused (refusal 11 0))) (sym (lt-leb long lent h)) ∙ length-judged
 
               pub long-enough : long ≤ lent → Bytes long ≡ writtenOf s lent
               unfolding lengthVerdict
-              long-enough h = ap (λ (b : Bool). cond b (Bytes long) (Refused (refusal 11 0))) (sym (le-leb long lent h)) ∙ places-right
+              long-enough h = ap (λ (b : Bool). cond b (Bytes long) (Refused (refusal 11 0))) (sym (le-leb long lent h)) ∙ length-judged
 
 -- The file of a schedule whose arrays have their lengths.
 pub file-long : (s : Schedule) → length (s .tasks) ≡ 32 → length (s .chain) ≡ 12 → s .count ≤ 32 → s .places ≤ 12 → 18 * s .count + 8 + 2 * s .places ≡ length (fileBytes s)

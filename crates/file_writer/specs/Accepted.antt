@@ -25,7 +25,7 @@ pub record Accepted (s : Schedule) (lent n : ℕ) : Type 0 where
   pub long : n ≡ length (fileBytes s)
   pub fits : n ≤ lent
 
-both : (a b : Bool) → (a && b) ≡ true → (a ≡ true) × (b ≡ true)
+pub both : (a b : Bool) → (a && b) ≡ true → (a ≡ true) × (b ≡ true)
 both true true h = (refl, refl)
 both true false h = absurd (let z : _≡_ {A = ℕ} 0 1 = cc in omega arith)
 both false b h = absurd (let z : _≡_ {A = ℕ} 0 1 = cc in omega arith)

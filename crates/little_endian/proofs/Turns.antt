@@ -1,6 +1,4 @@
 -- What one turn of each loop does.
-use mir.Syntax.{w64}
-use mir.Val.{Fits}
 use Prim.Native.Nat.{ℕ, zero, suc, _+_, _-_, _*_, _/_, _%_, _≤_, _<_}
 use native.Mathlib.Omega.{arith}
 use mathlib.Core.Path.{_≡_, refl, sym, ap, _∙_}
@@ -44,12 +42,6 @@ below-five : (w x : ℕ) → w ≤ 4 → x < power w → x < 4294967296
 unfolding power
 below-five zero x h k = omega arith
 below-five (suc w) x h k = omega (arith, power-four w (omega arith), k)
-
-pub small-times : (x : ℕ) → x < 16777216 → Fits w64 (x * 256)
-small-times x h = omega arith
-
-pub small-turn : (x b : ℕ) → x < 16777216 → b < 256 → Fits w64 (x * 256 + b)
-small-turn x b h g = omega arith
 
 -- The end of reading.
 pub number-whole : (l : List ℕ) (at w i x : ℕ) → w ≤ 4 → i ≤ 0 → x ≡ numberAt l (at + i) (w - i) → x < power (w - i) → (x ≡ numberAt l at w) × (x < 4294967296)

@@ -1,3 +1,4 @@
 pub mod LittleEndian
 pub mod Spelling
 pub mod Stores
+pub mod Fields

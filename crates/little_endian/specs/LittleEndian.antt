@@ -8,6 +8,11 @@ unfoldable pub valueOf : List ℕ → ℕ
 valueOf [] = 0
 valueOf (b ∷ l) = b + valueOf l * 256
 
+-- How many numbers w bytes spell.
+unfoldable pub power : ℕ → ℕ
+power zero = 1
+power (suc w) = power w * 256
+
 -- A number in w bytes, the lowest first.
 unfoldable pub bytesOf : ℕ → ℕ → List ℕ
 bytesOf zero x = []
@@ -20,8 +25,3 @@ numberAt l at w = valueOf (take w (drop at l))
 -- Every element is a byte.
 abbrev pub Bytes : List ℕ → Type 0
 Bytes l = (i : ℕ) → getD l i 0 < 256
-
--- How many numbers w bytes spell.
-unfoldable pub power : ℕ → ℕ
-power zero = 1
-power (suc w) = power w * 256

@@ -10,13 +10,13 @@ use Rattle.little_endian.specs.LittleEndian.{valueOf, bytesOf, Bytes, po
 pub length-bytes : (w x : ℕ) → length (bytesOf w x) ≡ w
 unfolding bytesOf
 length-bytes zero x = refl
-length-bytes (suc w) x = ap suc (length-bytes w (x / 256))
+length-bytes (suc w) x = ap suc (length-bytes w _)
 
 pub bytes-are : (w x : ℕ) → Bytes (bytesOf w x)
 unfolding bytesOf
 bytes-are zero x i = omega arith
 bytes-are (suc w) x zero = omega arith
-bytes-are (suc w) x (suc i) = bytes-are w (x / 256) i
+bytes-are (suc w) x (suc i) = bytes-are w _ i
 
 -- A number that fits is read back from its bytes,
 pub value-of-bytes : (w x : ℕ) → x < power w → valueOf (bytesOf w x) ≡ x

@@ -2,7 +2,7 @@ use native.Mathlib.Omega.{arith}
 use Prim.Native.Nat.{ℕ, _+_, _-_, _≤_, _<_}
 use mathlib.Core.Path.{_≡_, refl, sym, ap, _∙_}
 use Rattle.little_endian.specs.LittleEndian.{numberAt, power}
-use Rattle.little_endian.proofs.Turns.{number-none, power-none, number-turn, power-turn, below-four, small-times, small-turn, number-whole}
+use Rattle.little_endian.proofs.Turns.{number-none, power-none, number-turn, power-turn, below-four, number-whole}
 use borrow.Author.Needs.{needs}
 use Rattle.little_endian.proofs.number_at.Statement.{statement}
 use Rattle.little_endian.proofs.number_at.Tie as tie
@@ -21,7 +21,7 @@ sub-i : tie.Need-sub-i Inv-loop μ-loop
 sub-i c = search needs
 
 mul-x : tie.Need-mul-x Inv-loop μ-loop
-mul-x c = small-times _ (below-four _ _ _ (c .loop-test .taken) (c .before .loop .inv .0) (c .before .before .before .pre .0) (c .before .loop .inv .2))
+mul-x c = let h = below-four _ _ _ (c .loop-test .taken) (c .before .loop .inv .0) (c .before .before .before .pre .0) (c .before .loop .inv .2) in omega arith
 
 add-wide : tie.Need-add-wide Inv-loop μ-loop
 add-wide c = search needs
@@ -35,7 +35,8 @@ wide-requires c κs = search needs
 add-x : tie.Need-add-x Inv-loop μ-loop
 add-x c =
     let i = c .before .before in
-    small-turn _ _ (below-four _ _ _ (i .loop-test .taken) (i .before .loop .inv .0) (i .before .before .before .pre .0) (i .before .loop .inv .2)) (c .wide .ensures .1)
+    let h = below-four _ _ _ (i .loop-test .taken) (i .before .loop .inv .0) (i .before .before .before .pre .0) (i .before .loop .inv .2) in
+    omega (arith, c .wide .ensures .1)
 
 loop-less : tie.Need-loop-less Inv-loop μ-loop
 loop-less c = search needs

@@ -8,11 +8,15 @@ use Rattle.schedule.proofs.follows.Tie as tie
 
 returns : tie.Need-returns
 unfolding taskRule
-returns c = simp (le-ltb _ _ (c .if1 .taken))
+returns c =
+    let s = c .before .before in
+    rw (le-ltb (s .args .before) (s .args .t .number) (c .if1 .taken))
 
 returns-2 : tie.Need-returns-2
 unfolding taskRule
-returns-2 c = simp (lt-ltb _ _ (c .before .before .if1 .left), lt-leb _ _ (c .if2 .taken))
+returns-2 c =
+    let s = c .before .before .before .before in
+    rw (lt-ltb (s .args .before) (s .args .t .number) (c .before .before .if1 .left), lt-leb (s .args .t .number) 65535 (c .if2 .taken))
 
 within-limits-requires : tie.Need-within-limits-requires
 within-limits-requires c κs = tt

@@ -1,0 +1,106 @@
+-- Flat lists and arrays, an element at a time.
+use Prim.Native.Nat.{ℕ, zero, suc, _+_, _-_, _*_, _≤_, _<_}
+use native.Mathlib.Omega.{arith}
+use native.Mathlib.Nat.{mul-le-mul-left}
+use native.Mathlib.Numerals.{add-one}
+use mathlib.Core.Path.{_≡_, refl, sym, ap, _∙_}
+use mathlib.Core.List.{List, [], _∷_, _++_, append-assoc, append-nil}
+use lib.ListN.{length, getD, set, take, replicate, length-append, length-set}
+use lib.Seq.{sets, take-all, length-take-le}
+use Rattle.schedule.specs.Schedules.{padded}
+use Rattle.schedule.specs.Padding.{padded-none, padded-set, padded-same, padded-whole}
+use Rattle.capi_file.specs.FlatSchedule.{entriesOf, flatOf}
+
+-- ---- arrays from a rule
+
+module _ {A : Type 0} (f : ℕ → A) where
+  length-entries : (p n : ℕ) → length (entriesOf f p n) ≡ n
+  unfolding entriesOf
+  length-entries p zero = refl
+  length-entries p (suc n) = ap suc (length-entries (suc p) n)
+
+  entries-more : (p n : ℕ) → entriesOf f p (suc n) ≡ entriesOf f p n ++ (f (p + n) ∷ [])
+  unfolding entriesOf
+  entries-more p zero = let e : p + 0 ≡ p = omega arith in rw e
+  entries-more p (suc n) =
+      let e : suc p + n ≡ p + suc n = omega arith in
+      let h = entries-more (suc p) n in
+      ap (λ (l : List A). f p ∷ l) (rw e at h)
+
+  more : (n i : ℕ) (d : A) → padded n d (entriesOf f 0 i ++ (f i ∷ [])) ≡ padded n d (entriesOf f 0 (i + 1))
+  more n i d =
+      let e : 0 + i ≡ i = omega arith in
+      ap (λ (k : ℕ). padded n d (entriesOf f 0 i ++ (f k ∷ []))) (sym e) ∙ ap (padded n d) (sym (entries-more 0 i)) ∙ ap (λ (k : ℕ). padded n d (entriesOf f 0 k)) (sym (add-one i))
+
+  pub entries-store : (n i : ℕ) (d : A) → i < n → set (padded n d (entriesOf f 0 i)) i (f i) ≡ padded n d (entriesOf f 0 (i + 1))
+  entries-store n i d h = padded-set d n (entriesOf f 0 i) i (f i) (length-entries 0 i) h ∙ more n i d
+
+  -- where the entry is what was there before
+  pub entries-leave : (n i : ℕ) (d : A) → i < n → f i ≡ d → padded n d (entriesOf f 0 i) ≡ padded n d (entriesOf f 0 (i + 1))
+  entries-leave n i d h e =
+      padded-same d n (entriesOf f 0 i) (omega (arith, length-entries 0 i)) ∙ ap (λ (x : A). padded n d (entriesOf f 0 i ++ (x ∷ []))) (sym e) ∙ more n i d
+
+  pub entries-none : (n : ℕ) (d : A) → replicate n d ≡ padded n d (entriesOf f 0 0)
+  unfolding entriesOf
+  entries-none n d = sym (padded-none d n)
+
+  pub entries-whole : (n : ℕ) (d : A) → padded n d (entriesOf f 0 n) ≡ entriesOf f 0 n
+  entries-whole n d = padded-whole d n (entriesOf f 0 n) (omega (arith, length-entries 0 n))
+
+-- ---- flat lists
+
+-- a run of stores at the list's end makes it longer
+padded-sets : (n d : ℕ) (vs l : List ℕ) (at : ℕ) → length l ≡ at → at + length vs ≤ n → sets (padded n d l) at vs ≡ padded n d (l ++ vs)
+padded-sets n d [] l at e h = ap (padded n d) (sym (append-nil l))
+padded-sets n d (v ∷ vs) l at e h =
+    ap (λ (m : List ℕ). sets m (suc at) vs) (padded-set d n l at v e (omega arith))
+    ∙ padded-sets n d vs (l ++ (v ∷ [])) (suc at) (length-append l (v ∷ []) ∙ (omega arith)) (omega arith)
+    ∙ ap (padded n d) (append-assoc l (v ∷ []) vs)
+
+module _ {A : Type 0} (f : A → List ℕ) (k : ℕ) (each : (x : A) → length (f x) ≡ k) where
+  length-flat : (l : List A) → length (flatOf f l) ≡ k * length l
+  unfolding flatOf
+  length-flat [] = omega arith
+  length-flat (x ∷ l) = length-append (f x) (flatOf f l) ∙ (omega (arith, each x, length-flat l))
+
+  flat-more : (d : A) (l : List A) (i : ℕ) → i < length l → flatOf f (take (suc i) l) ≡ flatOf f (take i l) ++ f (getD l i d)
+  unfolding flatOf
+  flat-more d [] i h = absurd (omega arith)
+  flat-more d (x ∷ l) zero h = append-nil (f x)
+  flat-more d (x ∷ l) (suc i) h = ap (λ (r : List ℕ). f x ++ r) (flat-more d l i (omega arith)) ∙ sym (append-assoc (f x) (flatOf f (take i l)) (f (getD l i d)))
+
+  pub flat-none : (n : ℕ) (all : List A) → replicate n 0 ≡ padded n 0 (flatOf f (take 0 all))
+  unfolding flatOf
+  flat-none n all = sym (padded-none 0 n)
+
+  pub flat-turn : (n : ℕ) (d : A) (all : List A) (i : ℕ) (flat : List ℕ) → i < length all → k * length all ≤ n → flat ≡ padded n 0 (flatOf f (take i all))
+      → sets flat (k * i) (f (getD all i d)) ≡ padded n 0 (flatOf f (take (i + 1) all))
+  flat-turn n d all i flat h g e =
+      let t : length (take i all) ≡ i = length-take-le i all (omega arith) in
+      let m : k * suc i ≤ k * length all = mul-le-mul-left k (omega arith) in
+      ap (λ (l : List ℕ). sets l (k * i) (f (getD all i d))) e
+      ∙ padded-sets n 0 (f (getD all i d)) (flatOf f (take i all)) (k * i) (length-flat (take i all) ∙ ap (λ (x : ℕ). k * x) t) (omega (arith, each (getD all i d)))
+      ∙ ap (padded n 0) (sym (flat-more d all i h)) ∙ ap (λ (x : ℕ). padded n 0 (flatOf f (take x all))) (sym (add-one i))
+
+  -- all elements are stored, in an array of just their length
+  pub flat-end : (n : ℕ) (all : List A) (i : ℕ) (flat : List ℕ) → length all ≤ i → n ≡ k * length all → flat ≡ padded n 0 (flatOf f (take i all)) → flat ≡ flatOf f all
+  flat-end n all i flat h g e =
+      e ∙ ap (λ (l : List A). padded n 0 (flatOf f l)) (take-all i all h) ∙ padded-whole 0 n (flatOf f all) (omega (arith, length-flat all))
+
+pub three-stores : (l : List ℕ) (at a b c : ℕ) → set (set (set l at a) (at + 1) b) (at + 2) c ≡ sets l at (a ∷ b ∷ c ∷ [])
+three-stores l at a b c =
+    let p : at + 1 ≡ suc at = omega arith in
+    let q : at + 2 ≡ suc (suc at) = omega arith in
+    rw (p, q)
+
+pub four-stores : (l : List ℕ) (at a b c d : ℕ) → set (set (set (set l at a) (at + 1) b) (at + 2) c) (at + 3) d ≡ sets l at (a ∷ b ∷ c ∷ d ∷ [])
+four-stores l at a b c d =
+    let r : at + 3 ≡ suc (suc (suc at)) = omega arith in
+    rw r (ap (λ (m : List ℕ). set m (suc (suc (suc at))) d) (three-stores l at a b c))
+
+-- stores leave the length
+pub kept-three : (l : List ℕ) (n i j k a b c : ℕ) → length l ≡ n → length (set (set (set l i a) j b) k c) ≡ n
+kept-three l n i j k a b c h = simp length-set h
+
+pub kept-four : (l : List ℕ) (n i j k m a b c d : ℕ) → length l ≡ n → length (set (set (set (set l i a) j b) k c) m d) ≡ n
+kept-four l n i j k m a b c d h = simp length-set h

@@ -1,0 +1,66 @@
+-- A schedule as C gives it: the flat list number, T, D, F, .. of its tasks with their count, and the list of its chain's task numbers with the number of places.
+use Prim.Native.Nat.{ℕ, zero, suc, _+_, _*_, _/_, _%_}
+use mathlib.Core.Bool.{cond, _&&_}
+use mathlib.Core.List.{List, [], _∷_, _++_}
+use lib.Dec.{leb, eqb}
+use lib.ListN.{length, getD}
+use Rattle.task.specs.declared.Task.{Task}
+use Rattle.schedule.specs.declared.NumberedTask.{NumberedTask}
+use Rattle.schedule.specs.declared.Schedule.{Schedule}
+use Rattle.schedule.specs.Schedules.{zeroNumbered}
+
+-- Task i of the list, zeros where the list does not hold it whole.
+unfoldable pub numberedAt : List ℕ → ℕ → NumberedTask
+numberedAt l i =
+    cond (leb (4 * i + 4) (length l))
+    (record { number = getD l (4 * i) 0; task = record { period = getD l (4 * i + 1) 0; duration = getD l (4 * i + 2) 0; phase = getD l (4 * i + 3) 0 } })
+    zeroNumbered
+
+-- Place i of the list, 0 past its end.
+abbrev pub placeAt : List ℕ → ℕ → ℕ
+placeAt l i = getD l i 0
+
+-- f at p, p + 1, and so on, n in all.
+unfoldable pub entriesOf : {A : Type 0} → (ℕ → A) → ℕ → ℕ → List A
+entriesOf f p zero = []
+entriesOf f p (suc n) = f p ∷ entriesOf f (suc p) n
+
+abbrev pub tasksFrom : List ℕ → List NumberedTask
+tasksFrom l = entriesOf (numberedAt l) 0 32
+
+abbrev pub chainFrom : List ℕ → List ℕ
+chainFrom l = entriesOf (placeAt l) 0 12
+
+-- A list whose length is no multiple of four, or that holds fewer tasks than are counted, gives a schedule of no tasks, which is refused with 8;
+-- so does a list that holds fewer places than are counted.
+unfoldable pub countFrom : ℕ → ℕ → ℕ
+countFrom long count = cond (eqb (long % 4) 0 && leb count (long / 4)) count 0
+
+unfoldable pub placesFrom : ℕ → ℕ → ℕ
+placesFrom long places = cond (leb places long) places 0
+
+abbrev pub scheduleFrom : List ℕ → ℕ → List ℕ → ℕ → Schedule
+scheduleFrom tasks count chain places = record {
+  tasks = tasksFrom tasks;
+  chain = chainFrom chain;
+  count = countFrom (length tasks) count;
+  places = placesFrom (length chain) places;
+}
+
+-- The numbers of each element, one after the other.
+unfoldable pub flatOf : {A : Type 0} → (A → List ℕ) → List A → List ℕ
+flatOf f [] = []
+flatOf f (x ∷ l) = f x ++ flatOf f l
+
+-- number, T, D, F of a schedule's task; T, D, F of a chain's.
+abbrev pub numberedFields : NumberedTask → List ℕ
+numberedFields t = t .number ∷ t .task .period ∷ t .task .duration ∷ t .task .phase ∷ []
+
+abbrev pub taskFields : Task → List ℕ
+taskFields a = a .period ∷ a .duration ∷ a .phase ∷ []
+
+abbrev pub flatTasks : List NumberedTask → List ℕ
+flatTasks ts = flatOf numberedFields ts
+
+abbrev pub flatChain : List Task → List ℕ
+flatChain l = flatOf taskFields l

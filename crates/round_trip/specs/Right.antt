@@ -1,0 +1,129 @@
+-- Tasks and a chain that writing accepts and reading ends with.
+use Prim.Native.Nat.{ℕ, zero, suc, _+_, _-_, _≤_, _<_}
+use native.Mathlib.Omega.{arith}
+use mathlib.Core.Path.{_≡_, refl, sym, ap, _∙_}
+use mathlib.Core.Bool.{Bool, true, false, cond, _&&_}
+use mathlib.Core.List.{List, [], _∷_, _++_, map}
+use lib.Dec.{ltb, leb, eqb}
+use lib.ListN.{length, getD, length-append, length-map}
+use lib.Seq.{getD-append-seam}
+use borrow.Author.Tests.{ltb-true, leb-true, eqb-true}
+use Rattle.little_endian.specs.LittleEndian.{power}
+use Rattle.task.specs.Jobs.{withinLimits}
+use Rattle.schedule.specs.declared.NumberedTask.{NumberedTask}
+use Rattle.schedule.specs.Schedules.{numberOf, taskRule, known}
+use Rattle.file_reader.specs.Reading.{lastOf, allKnown}
+use Rattle.file_writer.specs.Writing.{firstFault, firstUnknown}
+use Rattle.round_trip.specs.RecordBytes.{FitsTask, Small, none, more}
+
+pub record Right (ts : List NumberedTask) (ch : List ℕ) : Type 0 where
+  pub some : 1 ≤ length ts
+  pub few : length ts ≤ 32
+  pub tasks-right : firstFault 1 0 ts ≡ 0
+  pub placed : 1 ≤ length ch
+  pub few-places : length ch ≤ 12
+  pub places-known : firstUnknown 1 (map numberOf ts) ch ≡ 0
+
+and-both : (a b : Bool) → (a && b) ≡ true → (a ≡ true) × (b ≡ true)
+and-both true true h = (refl, refl)
+and-both true false h = absurd (let z : _≡_ {A = ℕ} 0 1 = cc in omega arith)
+and-both false b h = absurd (let z : _≡_ {A = ℕ} 0 1 = cc in omega arith)
+
+-- ---- the rule of a task
+
+-- the values of a task that keeps the rule fit their fields
+pub rule-fits : (before : ℕ) (t : NumberedTask) → taskRule before t ≡ true → FitsTask t
+unfolding taskRule withinLimits power
+rule-fits before t h =
+    let a = and-both (ltb before (t .number)) _ h in
+    let b = and-both (leb (t .number) 65535) _ (a .1) in
+    let c = and-both (leb 1 (t .task .period)) _ (b .1) in
+    let d = and-both (leb (t .task .period) 1000000) _ (c .1) in
+    let e = and-both (leb 1 (t .task .duration)) _ (d .1) in
+    let f = and-both (leb (t .task .duration) 4000000) _ (e .1) in
+    record {
+      number = omega (arith, leb-true (t .number) 65535 (b .0));
+      period = omega (arith, leb-true (t .task .period) 1000000 (d .0));
+      duration = omega (arith, leb-true (t .task .duration) 4000000 (f .0));
+      phase = omega (arith, leb-true (t .task .phase) 1000000 (f .1));
+    }
+
+-- no fault from position p on: the first task keeps the rule, and there is none after it
+pub fault-cons : (p before : ℕ) (t : NumberedTask) (ts : List NumberedTask) → 1 ≤ p → firstFault p before (t ∷ ts) ≡ 0 → (taskRule before t ≡ true) × (firstFault (p + 1) (t .number) ts ≡ 0)
+unfolding firstFault
+fault-cons p before t ts pos h = go (taskRule before t) refl h
+  where
+    go : (b : Bool) → taskRule before t ≡ b → cond b (firstFault (p + 1) (t .number) ts) p ≡ 0 → (taskRule before t ≡ true) × (firstFault (p + 1) (t .number) ts ≡ 0)
+    go true e k = (e, k)
+    go false e k = absurd (omega arith)
+
+-- a task more, after the last
+last-of : ℕ → List NumberedTask → ℕ
+last-of before [] = before
+last-of before (t ∷ ts) = last-of (t .number) ts
+
+fault-more : (p before : ℕ) (ts : List NumberedTask) (t : NumberedTask) → 1 ≤ p → firstFault p before ts ≡ 0 → taskRule (last-of before ts) t ≡ true → firstFault p before (ts ++ (t ∷ [])) ≡ 0
+unfolding firstFault last-of
+fault-more p before [] t pos h r = rw r
+fault-more p before (x ∷ ts) t pos h r =
+    let k = fault-cons p before x ts pos h in
+    rw (k .0) (fault-more (p + 1) (x .number) ts t (omega arith) (k .1) r)
+
+last-is : (x : NumberedTask) (ts : List NumberedTask) → lastOf (map numberOf (x ∷ ts)) ≡ last-of (x .number) ts
+unfolding last-of
+last-is x [] = refl
+last-is x (y ∷ ts) =
+    let e : suc (suc (length (map numberOf ts))) - 1 ≡ suc (suc (length (map numberOf ts)) - 1) = omega arith in
+    ap (λ (i : ℕ). getD (x .number ∷ y .number ∷ map numberOf ts) i 0) e ∙ last-is y ts
+
+last-from : (ts : List NumberedTask) → lastOf (map numberOf ts) ≡ last-of 0 ts
+unfolding last-of
+last-from [] = refl
+last-from (x ∷ ts) = last-is x ts
+
+pub fault-snoc : (ts : List NumberedTask) (t : NumberedTask) → firstFault 1 0 ts ≡ 0 → taskRule (lastOf (map numberOf ts)) t ≡ true → firstFault 1 0 (ts ++ (t ∷ [])) ≡ 0
+fault-snoc ts t h r = fault-more 1 0 ts t (omega arith) h (rw (last-from ts) at r)
+
+-- ---- the numbers of a chain
+
+-- none is unknown exactly where all are known
+pub unknown-all : (p : ℕ) (ns ch : List ℕ) → 1 ≤ p → firstUnknown p ns ch ≡ 0 → allKnown ns ch ≡ true
+unfolding firstUnknown allKnown
+unknown-all p ns [] pos h = refl
+unknown-all p ns (n ∷ ch) pos h = go (known ns n) h (unknown-all (p + 1) ns ch (omega arith))
+  where
+    go : (b : Bool) → cond b (firstUnknown (p + 1) ns ch) p ≡ 0 → (firstUnknown (p + 1) ns ch ≡ 0 → allKnown ns ch ≡ true) → cond b (allKnown ns ch) false ≡ true
+    go true k f = f k
+    go false k f = absurd (omega arith)
+
+pub all-unknown : (p : ℕ) (ns ch : List ℕ) → allKnown ns ch ≡ true → firstUnknown p ns ch ≡ 0
+unfolding firstUnknown allKnown
+all-unknown p ns [] h = refl
+all-unknown p ns (n ∷ ch) h = go (known ns n) h (all-unknown (p + 1) ns ch)
+  where
+    go : (b : Bool) → cond b (allKnown ns ch) false ≡ true → (allKnown ns ch ≡ true → firstUnknown (p + 1) ns ch ≡ 0) → cond b (firstUnknown (p + 1) ns ch) p ≡ 0
+    go true k f = f k
+    go false k f = absurd (let z : _≡_ {A = ℕ} 0 1 = cc in omega arith)
+
+-- a number of a task that keeps the rule is small, so every number of such a chain is
+known-small : (p before : ℕ) (ts : List NumberedTask) (n : ℕ) → 1 ≤ p → firstFault p before ts ≡ 0 → known (map numberOf ts) n ≡ true → n < 65536
+unfolding known taskRule
+known-small p before [] n pos f h = absurd (let z : _≡_ {A = ℕ} 0 1 = cc in omega arith)
+known-small p before (t ∷ ts) n pos f h =
+    let k = fault-cons p before t ts pos f in
+    let a = and-both (ltb before (t .number)) _ (k .0) in
+    let b = and-both (leb (t .number) 65535) _ (a .1) in
+    go (eqb (t .number) n) refl h (leb-true (t .number) 65535 (b .0)) (known-small (p + 1) (t .number) ts n (omega arith) (k .1))
+  where
+    go : (b : Bool) → eqb (t .number) n ≡ b → cond b true (known (map numberOf ts) n) ≡ true → t .number ≤ 65535 → (known (map numberOf ts) n ≡ true → n < 65536) → n < 65536
+    go true e k s r = omega (arith, eqb-true (t .number) n e)
+    go false e k s r = r k
+
+pub chain-small : (ts : List NumberedTask) (ch : List ℕ) → firstFault 1 0 ts ≡ 0 → allKnown (map numberOf ts) ch ≡ true → Small ch
+unfolding allKnown
+chain-small ts [] f h = none
+chain-small ts (n ∷ ch) f h = go (known (map numberOf ts) n) refl h (chain-small ts ch f)
+  where
+    go : (b : Bool) → known (map numberOf ts) n ≡ b → cond b (allKnown (map numberOf ts) ch) false ≡ true → (allKnown (map numberOf ts) ch ≡ true → Small ch) → Small (n ∷ ch)
+    go true e k r = more (known-small 1 0 ts n (omega arith) f e) (r k)
+    go false e k r = absurd (let z : _≡_ {A = ℕ} 0 1 = cc in omega arith)
