@@ -1,10 +1,10 @@
 -- Document 01, program `chainreport`: the whole text for the bytes of a schedule file.
-use Prim.Native.Nat.{ℕ, _+_, _≤_, max}
+use Prim.Native.Nat.{ℕ, _+_, _≤_, _<_, max}
 use mathlib.Core.Path.{_≡_}
 use mathlib.Core.Bool.{cond}
 use mathlib.Core.List.{List, [], _∷_, _++_, map}
 use lib.Dec.{eqb}
-use lib.ListN.{length}
+use lib.ListN.{length, getD}
 use Rattle.refusal.specs.declared.Refusal.{Refusal}
 use Rattle.refusal.specs.Refusals.{refusal}
 use Rattle.task.specs.declared.Task.{Task}
@@ -66,9 +66,13 @@ fileText r = cond (eqb (r .refusal .number) 0) (chainText 1024 (chainOf (r .sche
 abbrev pub reportOf : List ℕ → List ℕ
 reportOf bytes = fileText (readFile bytes)
 
--- No text is longer: `report` promises it. 1,024 lines of an anchor have at most 44 bytes each, a 64-bit number having at most 20 digits.
+-- The first g starts have at most 10 digits, the latencies at most 8, as in every well-formed table.
+abbrev pub FewDigits : List ℕ → List ℕ → ℕ → Type 0
+FewDigits starts latencies g = (i : ℕ) → i < g → (getD starts i 0 < 10000000000) × (getD latencies i 0 < 100000000)
+
+-- No text is longer: `report` promises it. Each of 1,024 lines of an anchor has at most 22 bytes.
 abbrev pub longestText : ℕ
-longestText = 46000
+longestText = 23000
 
 -- What `report` answers and leaves: the answer is the text's length; the lent bytes hold the text, as much of it as fits, and past it what was there.
 pub record Reports (bytes old new : List ℕ) (answer : ℕ) : Type 0 where

@@ -17,7 +17,7 @@ ghost use Rattle.table.specs.WellFormed.{wellFormed};
 ghost use Rattle.table.specs.Figures.{greatest, low};
 ghost use Rattle.figures.specs.Figures.{delaySum};
 ghost use Rattle.text.specs.Text.{Puts};
-ghost use Rattle.report.specs.Report.{longestPlace, refusedText, anchorLines, headText, figuresText, tableText, chainText, longestText, Reports};
+ghost use Rattle.report.specs.Report.{longestPlace, refusedText, anchorLines, headText, figuresText, tableText, chainText, FewDigits, longestText, Reports};
 
 // The place of the longest period, counted from 1; the lowest among equals.
 fn longest_place(c: Chain) -> usize
@@ -55,9 +55,10 @@ fn put_head(out: &mut [u8], f: Figures) -> usize
     text::put_line(out, b, b"anchors", f.anchors as u64)
 }
 
+// A line of an anchor has at most 22 bytes.
 fn put_anchors(out: &mut [u8], at: usize, starts: &[u64], latencies: &[u64], g: usize) -> usize
-    requires { ⌜ (g ≤ length (now starts)) × (g ≤ length (now latencies)) × (at + 44 * g ≤ 50000) ⌝ }
-    ensures { λ n. ⌜ (Puts (anchorLines (anchors (now (starts .entry)) (now (latencies .entry)) g)) at (now (out .entry)) (now (out .exit)) n) × (n ≤ at + 44 * g) ⌝ }
+    requires { ⌜ (g ≤ length (now starts)) × (g ≤ length (now latencies)) × (at + 22 * g ≤ 50000) × FewDigits (now starts) (now latencies) g ⌝ }
+    ensures { λ n. ⌜ (Puts (anchorLines (anchors (now (starts .entry)) (now (latencies .entry)) g)) at (now (out .entry)) (now (out .exit)) n) × (n ≤ at + 22 * g) ⌝ }
 {
     let mut end = at;
     let mut i: usize = 0;
@@ -152,7 +153,7 @@ fn put_chain(out: &mut [u8], c: Chain, starts: &mut [u64], latencies: &mut [u64]
 }
 
 // The report of a schedule file. The answer is the length of the text; the lent bytes hold the first bytes of it that fit, and past it what was there.
-// No text is longer than 46,000 bytes, so that many lent bytes hold every report.
+// No text is longer than 23,000 bytes, so that many lent bytes hold every report.
 pub fn report(bytes: &[u8], out: &mut [u8]) -> usize
     ensures { λ n. ⌜ Reports (now (bytes .entry)) (now (out .entry)) (now (out .exit)) n ⌝ }
 {

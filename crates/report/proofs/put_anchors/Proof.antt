@@ -7,13 +7,13 @@ use Rattle.table.specs.Anchors.{anchors}
 use Rattle.text.specs.Text.{ascii}
 use Rattle.text.specs.Putting.{puts-length}
 use Rattle.report.specs.Report.{anchorLines}
-use Rattle.report.proofs.Lines.{Left, left-all, anchor-turn, anchor-end}
+use Rattle.report.proofs.Lines.{Left, left-all, anchor-turn, anchor-end, anchor-short}
 use Rattle.report.proofs.put_anchors.Statement.{statement}
 use Rattle.report.proofs.put_anchors.Tie as tie
 
 abbrev Inv-loop : tie.InvT-loop
 Inv-loop out₀ at starts latencies g end₀ i₀ t8 out end i =
-    (i ≤ g) × (end ≤ at + 44 * i) × (length out ≡ length out₀) × (t8 ≡ ascii "a")
+    (i ≤ g) × (end ≤ at + 22 * i) × (length out ≡ length out₀) × (t8 ≡ ascii "a")
     × Left (anchorLines (anchors starts latencies g)) at out₀ (anchorLines (drop i (anchors starts latencies g))) end out
 
 abbrev μ-loop : tie.MeasureT-loop
@@ -50,9 +50,10 @@ loop-again : tie.Need-loop-again Inv-loop μ-loop
 loop-again c =
     let l = c .before .before .before .before .before .before .before .before .loop in
     let s = c .before .before .before .before .before .before .before .before .before .before .before .before in
-    let p = c .before .before .put-pair .ensures .0 in (
+    let p = c .before .before .put-pair .ensures .0 in
+    let x = s .pre .3 (l .i) (c .before .before .before .before .before .before .before .loop-test .taken) in (
       omega arith,
-      omega (arith, c .before .before .put-pair .ensures .1),
+      omega (arith, p .ends, anchor-short _ _ (x .0) (x .1)),
       puts-length _ _ _ _ _ p ∙ l .inv .2,
       refl,
       anchor-turn (s .args .starts .now) (s .args .latencies .now) (s .args .g) (s .pre .0) (s .pre .1) (l .i) (c .before .before .before .before .before .before .before .loop-test .taken) _ _ _ _ _ _ _ (l .inv .4) p,

@@ -1,6 +1,7 @@
 use native.Mathlib.Omega.{arith}
 use Rattle.text.specs.Putting.{puts-two}
 use Rattle.report.specs.Report.{tableText}
+use Rattle.report.proofs.Lines.{well-short}
 use borrow.Author.Needs.{needs}
 use Rattle.report.proofs.put_table.Statement.{statement}
 use Rattle.report.proofs.put_table.Tie as tie
@@ -9,7 +10,9 @@ put-head-requires : tie.Need-put-head-requires
 put-head-requires c κs = search needs
 
 put-anchors-requires : tie.Need-put-anchors-requires
-put-anchors-requires c κs = search needs
+put-anchors-requires c κs =
+    let s = c .before .before .before .before .before .before .before .before in
+    (omega arith, omega arith, omega arith, well-short _ _ _ _ (s .pre .0))
 
 put-figures-requires : tie.Need-put-figures-requires
 put-figures-requires c κs = search needs
