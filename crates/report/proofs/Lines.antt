@@ -1,20 +1,16 @@
--- The loop over the anchors, the lines of the figures, and how long a line is.
+-- The loop over the anchors, and the lines of the figures.
 use Prim.Native.Nat.{ℕ, _+_, _≤_, _<_}
 use native.Mathlib.Omega.{arith}
 use mathlib.Core.Path.{_≡_, refl, subst}
-use mathlib.Core.Bool.{true}
-use mathlib.Core.List.{List, [], _∷_, _++_}
-use lib.ListN.{length, drop, getD, length-append}
+use mathlib.Core.List.{List, [], _∷_}
+use lib.ListN.{length, drop, getD}
 use Rattle.table.specs.Anchors.{Anchor, anchors}
 use Rattle.table.specs.Figures.{greatest, low}
 use Rattle.figures.specs.Figures.{delaySum}
 use Rattle.table.specs.Places.{anchors-end, anchors-at}
-use Rattle.table.specs.WellFormed.{wellFormed}
-use Rattle.table.specs.BothWays.{well}
-use Rattle.text.specs.Text.{ascii, fields, line, Puts}
-use Rattle.text.specs.Decimal.{tens, decimal-long}
+use Rattle.text.specs.Text.{ascii, line, Puts}
 use Rattle.text.specs.Putting.{puts-two}
-use Rattle.report.specs.Report.{anchorLines, figuresText, FewDigits}
+use Rattle.report.specs.Report.{anchorLines, figuresText}
 
 -- the text that is left, stored from here on, gives what the whole text gives
 pub record Left (text : List ℕ) (at : ℕ) (old : List ℕ) (rest : List ℕ) (here : ℕ) (new : List ℕ) : Type 0 where
@@ -45,12 +41,3 @@ unfolding figuresText
 figures-lines H l x y z at a b to k m n o e f g p q r =
     puts-two _ _ at a to k m o (subst (λ (i : ℕ). Puts (line (ascii "max") (i ∷ [])) at k m a) e p)
     (puts-two _ _ a b to m n o (subst (λ (i : ℕ). Puts (line (ascii "low") (i ∷ [])) a m n b) f q) (subst (λ (i : ℕ). Puts (line (ascii "mean") (i ∷ H ∷ [])) b n o to) g r))
-
--- ---- how long a line of an anchor is
-
-pub anchor-short : (s v : ℕ) → s < 10000000000 → v < 100000000 → length (line (ascii "a") (s ∷ v ∷ [])) ≤ 22
-unfolding line fields tens
-anchor-short s v h k = simp length-append (omega (arith, decimal-long 10 s (omega arith) (omega arith), decimal-long 8 v (omega arith) (omega arith)))
-
-pub well-short : (s v : List ℕ) (g H : ℕ) → wellFormed s v g H ≡ true → FewDigits s v g
-well-short s v g H e i h = let w = well s v g H (wellFormed s v g H) refl e in (omega (arith, w .first, w .hyper .1, w .below i h), omega (arith, w .latency i h))

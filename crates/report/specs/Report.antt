@@ -1,10 +1,10 @@
 -- Document 01, program `chainreport`: the whole text for the bytes of a schedule file.
-use Prim.Native.Nat.{ℕ, _+_, _≤_, _<_, max}
+use Prim.Native.Nat.{ℕ, _+_, _≤_, max}
 use mathlib.Core.Path.{_≡_}
 use mathlib.Core.Bool.{cond}
 use mathlib.Core.List.{List, [], _∷_, _++_, map}
 use lib.Dec.{eqb}
-use lib.ListN.{length, getD}
+use lib.ListN.{length}
 use Rattle.refusal.specs.declared.Refusal.{Refusal}
 use Rattle.refusal.specs.Refusals.{refusal}
 use Rattle.task.specs.declared.Task.{Task}
@@ -22,11 +22,12 @@ use Rattle.maker.specs.declared.Made.the-variants.{Whole, Short, Refused}
 use Rattle.maker.specs.Making.{madeOf, writtenOf, overlay}
 use Rattle.text.specs.Text.{ascii, line}
 
--- The place of the longest period, counted from 1; the lowest place among equals.
+-- The longest period of a chain,
 unfoldable pub longestPeriod : List Task → ℕ
 longestPeriod [] = 0
 longestPeriod (t ∷ l) = max (t .period) (longestPeriod l)
 
+-- and its place, counted from 1; the lowest place among equals.
 unfoldable pub longestPlace : List Task → ℕ
 longestPlace l = positionOf (longestPeriod l) (map (λ (t : Task). t .period) l) + 1
 
@@ -39,13 +40,15 @@ unfoldable pub anchorLines : List Anchor → List ℕ
 anchorLines [] = []
 anchorLines (a ∷ l) = line (ascii "a") (a .start ∷ a .latency ∷ []) ++ anchorLines l
 
--- Warm-up tick, H, g; each anchor; greatest, low, mean; walked.
+-- Warm-up tick, H, g;
 unfoldable pub headText : Figures → List ℕ
 headText f = line (ascii "warm") (f .tick .0 ∷ []) ++ (line (ascii "hyper") (f .hyperperiod ∷ []) ++ line (ascii "anchors") (f .anchors ∷ []))
 
+-- greatest, low, mean;
 unfoldable pub figuresText : ℕ → List Anchor → List ℕ
 figuresText H l = line (ascii "max") (greatest l ∷ []) ++ (line (ascii "low") (low H l ∷ []) ++ line (ascii "mean") (delaySum H l ∷ H ∷ []))
 
+-- these around the anchors, and walked.
 unfoldable pub tableText : Figures → List Anchor → List ℕ
 tableText f l = headText f ++ (anchorLines l ++ (figuresText (f .hyperperiod) l ++ line (ascii "walked") (f .walked ∷ [])))
 
@@ -59,16 +62,13 @@ madeText (Refused r) l = refusedText r
 unfoldable pub chainText : ℕ → Chain → List ℕ
 chainText slots c = madeText (madeOf c (longestPlace (tasksOf c)) slots slots) (writtenOf c (longestPlace (tasksOf c)) slots slots)
 
--- 1,024 slots.
+-- A file that is read has the text of its chain, made with 1,024 slots; else that of the refusal.
 unfoldable pub fileText : FileRead → List ℕ
 fileText r = cond (eqb (r .refusal .number) 0) (chainText 1024 (chainOf (r .schedule))) (refusedText (r .refusal))
 
+-- The whole text for the bytes of a file.
 abbrev pub reportOf : List ℕ → List ℕ
 reportOf bytes = fileText (readFile bytes)
-
--- The first g starts have at most 10 digits, the latencies at most 8, as in every well-formed table.
-abbrev pub FewDigits : List ℕ → List ℕ → ℕ → Type 0
-FewDigits starts latencies g = (i : ℕ) → i < g → (getD starts i 0 < 10000000000) × (getD latencies i 0 < 100000000)
 
 -- No text is longer: `report` promises it. Each of 1,024 lines of an anchor has at most 22 bytes.
 abbrev pub longestText : ℕ

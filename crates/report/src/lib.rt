@@ -17,7 +17,8 @@ ghost use Rattle.table.specs.WellFormed.{wellFormed};
 ghost use Rattle.table.specs.Figures.{greatest, low};
 ghost use Rattle.figures.specs.Figures.{delaySum};
 ghost use Rattle.text.specs.Text.{Puts};
-ghost use Rattle.report.specs.Report.{longestPlace, refusedText, anchorLines, headText, figuresText, tableText, chainText, FewDigits, longestText, Reports};
+ghost use Rattle.report.specs.Report.{longestPlace, refusedText, anchorLines, headText, figuresText, tableText, chainText, longestText, Reports};
+ghost use Rattle.report.specs.Widths.{FewDigits};
 
 // The place of the longest period, counted from 1; the lowest among equals.
 fn longest_place(c: Chain) -> usize

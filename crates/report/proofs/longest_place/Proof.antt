@@ -1,10 +1,8 @@
 use native.Mathlib.Omega.{arith}
-use Prim.Native.Nat.{ℕ, _+_, _-_, _*_, _≤_, _<_}
-use mathlib.Core.Path.{_≡_, refl, sym, ap, _∙_}
-use mathlib.Core.List.{List}
+use Prim.Native.Nat.{_-_, _≤_}
+use mathlib.Core.Path.{_≡_, sym, ap, _∙_}
 use lib.ListN.{length, take, drop, length-map}
 use borrow.Author.Needs.{needs}
-use Rattle.task.specs.declared.Task.{Task}
 use Rattle.chain.specs.Chains.{tasksOf, at}
 use Rattle.schedule.proofs.PlaceLaws.{least-le, take-least}
 use Rattle.report.specs.Report.{longestPlace}

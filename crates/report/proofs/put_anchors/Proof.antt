@@ -1,13 +1,14 @@
 use native.Mathlib.Omega.{arith}
-use Prim.Native.Nat.{ℕ, _+_, _-_, _*_, _≤_, _<_}
-use mathlib.Core.Path.{_≡_, refl, sym, ap, _∙_}
+use Prim.Native.Nat.{_+_, _-_, _*_, _≤_}
+use mathlib.Core.Path.{_≡_, refl, _∙_}
 use lib.ListN.{length, drop}
 use borrow.Author.Needs.{needs}
 use Rattle.table.specs.Anchors.{anchors}
 use Rattle.text.specs.Text.{ascii}
 use Rattle.text.specs.Putting.{puts-length}
 use Rattle.report.specs.Report.{anchorLines}
-use Rattle.report.proofs.Lines.{Left, left-all, anchor-turn, anchor-end, anchor-short}
+use Rattle.report.proofs.Lines.{Left, left-all, anchor-turn, anchor-end}
+use Rattle.report.specs.Widths.{anchor-short}
 use Rattle.report.proofs.put_anchors.Statement.{statement}
 use Rattle.report.proofs.put_anchors.Tie as tie
 

@@ -1,7 +1,7 @@
 use native.Mathlib.Omega.{arith}
 use Rattle.text.specs.Putting.{puts-two}
 use Rattle.report.specs.Report.{tableText}
-use Rattle.report.proofs.Lines.{well-short}
+use Rattle.report.specs.Widths.{well-short}
 use borrow.Author.Needs.{needs}
 use Rattle.report.proofs.put_table.Statement.{statement}
 use Rattle.report.proofs.put_table.Tie as tie
