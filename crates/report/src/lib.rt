@@ -41,12 +41,14 @@ fn longest_place(c: Chain) -> usize
 
 // ---- lines
 
+// The one line of a refusal, from the front.
 fn put_refusal(out: &mut [u8], r: Refusal) -> usize
     ensures { λ n. ⌜ (Puts (refusedText r) 0 (now (out .entry)) (now (out .exit)) n) × (n ≤ 50) ⌝ }
 {
     text::put_pair(out, 0, b"refused", r.number, r.place as u64)
 }
 
+// The lines before the anchors, from the front.
 fn put_head(out: &mut [u8], f: Figures) -> usize
     ensures { λ n. ⌜ (Puts (headText f) 0 (now (out .entry)) (now (out .exit)) n) × (n ≤ 82) ⌝ }
 {
@@ -56,7 +58,7 @@ fn put_head(out: &mut [u8], f: Figures) -> usize
     text::put_line(out, b, b"anchors", f.anchors as u64)
 }
 
-// A line of an anchor has at most 22 bytes.
+// The lines of the anchors, each of at most 22 bytes.
 fn put_anchors(out: &mut [u8], at: usize, starts: &[u64], latencies: &[u64], g: usize) -> usize
     requires { ⌜ (g ≤ length (now starts)) × (g ≤ length (now latencies)) × (at + 22 * g ≤ 50000) × FewDigits (now starts) (now latencies) g ⌝ }
     ensures { λ n. ⌜ (Puts (anchorLines (anchors (now (starts .entry)) (now (latencies .entry)) g)) at (now (out .entry)) (now (out .exit)) n) × (n ≤ at + 22 * g) ⌝ }
@@ -70,7 +72,7 @@ fn put_anchors(out: &mut [u8], at: usize, starts: &[u64], latencies: &[u64], g: 
     end
 }
 
-// ---- the figures of a well-formed table: none is refused
+// ---- the figures of a well-formed table, which `figures` does not refuse
 
 fn greatest_of(starts: &[u64], latencies: &[u64], g: usize, h: u64) -> u64
     requires { ⌜ wellFormed (now starts) (now latencies) g h ≡ true ⌝ }
@@ -105,6 +107,7 @@ fn sum_of(starts: &[u64], latencies: &[u64], g: usize, h: u64) -> u64
     }
 }
 
+// The lines of greatest, low and mean.
 fn put_figures(
     out: &mut [u8],
     at: usize,

@@ -28,6 +28,7 @@ fn put_byte(out: &mut [u8], at: usize, b: u8) -> usize
     at + 1
 }
 
+// The bytes of a word.
 fn put_word(out: &mut [u8], at: usize, word: &[u8]) -> usize
     requires { ⌜ at + length (now word) ≤ 1000000 ⌝ }
     ensures { λ r. ⌜ Puts (now (word .entry)) at (now (out .entry)) (now (out .exit)) r ⌝ }
