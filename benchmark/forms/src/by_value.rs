@@ -1,4 +1,4 @@
-//! The chain as a struct of twelve tasks and a count, passed by value from function to function, function for function as in the crates.
+//! The chain as a struct of twelve tasks and a count, passed by value from function to function, which are those of the crates.
 //! rustc would leave the copies out, since no function changes its chain. `received` makes it copy, at the calls where the archives copy.
 use plain::maker::{Figures, Made};
 use plain::task::Task;
@@ -13,7 +13,6 @@ pub struct Chain {
 
 #[derive(Clone, Copy)]
 struct Partition {
-    job: u64,
     start: u64,
     end: u64,
 }
@@ -176,11 +175,7 @@ fn of_job(c: Chain, p: usize, m: u64) -> Partition {
     let n = c.places - 1;
     let start = c.tasks[0].read(backward(c, 0, p, m).unwrap_or(0));
     let end = c.tasks[n].write(forward(c, p, n, m + 1));
-    Partition { job: m, start, end }
-}
-
-fn next(c: Chain, p: usize, here: Partition) -> Partition {
-    of_job(c, p, here.job + 1)
+    Partition { start, end }
 }
 
 fn store(list: &mut [u64], at: usize, value: u64) {
@@ -211,7 +206,7 @@ fn fill(c: Chain, p: usize, from: u64, n: u64, starts: &mut [u64], latencies: &m
     let mut last = 0;
     let mut here = of_job(c, p, from);
     while walked < n {
-        let following = next(c, p, here);
+        let following = of_job(c, p, from + walked + 1);
         g = add_anchor(here, following, last, g, starts, latencies);
         last = last_end(here, following, last);
         here = following;

@@ -105,7 +105,6 @@ pub fn age(list: &[u64], places: usize, z: u64) -> Result<u64, Refusal> {
 
 #[derive(Clone, Copy)]
 struct Partition {
-    job: u64,
     start: u64,
     end: u64,
 }
@@ -114,11 +113,7 @@ fn of_job(list: &[u64], places: usize, p: usize, m: u64) -> Partition {
     let n = places - 1;
     let start = task(list, 0).read(backward(list, 0, p, m).unwrap_or(0));
     let end = task(list, n).write(forward(list, p, n, m + 1));
-    Partition { job: m, start, end }
-}
-
-fn next(list: &[u64], places: usize, p: usize, here: Partition) -> Partition {
-    of_job(list, places, p, here.job + 1)
+    Partition { start, end }
 }
 
 fn store(list: &mut [u64], at: usize, value: u64) {
@@ -147,7 +142,7 @@ pub fn make_table(list: &[u64], places: usize, p: usize, starts: &mut [u64], lat
     let mut last = 0;
     let mut here = of_job(list, places, q, jobs[q]);
     while walked < n {
-        let following = next(list, places, q, here);
+        let following = of_job(list, places, q, jobs[q] + walked + 1);
         if following.start != here.start {
             if here.end != last {
                 store(starts, anchors, here.start);
