@@ -89,7 +89,7 @@ fn reading(g: usize) -> Case {
     let ticks = (0..TICKS).map(|_| 7 + draws.below(LATEST)).collect();
     Case {
         group: "reading",
-        name: format!("{g} anchors"),
+        name: if g == 1 { "1 anchor".to_string() } else { format!("{g} anchors") },
         call: Call::Read { table: Table { starts, latencies, h }, ticks },
         enumerating: h * TICKS as u64 / 2,
         work: (g * TICKS) as u64,
