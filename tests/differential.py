@@ -2,7 +2,8 @@
 
     python3 tests/differential.py [--count FACTOR] [--seed SEED]
 
-Each group prints its number of comparisons; the last line is 'N passed, M failed', in groups. A disagreement is printed with its input.
+Each group prints its number of comparisons, and on files how often each answer was met; the last line is 'N passed, M failed', in groups. A
+disagreement is printed with its input.
 """
 import argparse
 import collections
@@ -33,6 +34,7 @@ class Comparison:
         self.made = 0
         self.wrong = []
         self.met = collections.Counter()
+        self.lately = set()
 
     def same(self, ours, theirs, *about):
         self.made += 1
@@ -41,11 +43,14 @@ class Comparison:
 
     def meet(self, answer):
         """Counts an answer of the reference, as "ok" or by the refusal's number."""
-        self.met["ok" if answer[0] == "ok" else answer[1]] += 1
+        name = "ok" if answer[0] == "ok" else answer[1]
+        self.met[name] += 1
+        self.lately.add(name)
 
     def must_meet(self, *answers):
-        """Inputs that no longer lead to one of these answers show nothing of it."""
-        self.same([a for a in answers if self.met[a] == 0], [], "answers that were never met")
+        """The inputs since the last such line led to these answers; inputs that no longer do show nothing of them."""
+        self.same([a for a in answers if a not in self.lately], [], "answers that were not met")
+        self.lately = set()
 
 
 def padded(answer):
@@ -248,7 +253,8 @@ def compare_reading(ours, data, compare, past=b""):
         return
     _, tasks, chain = mine
     numbers = inputs.flat(tasks)
-    rest = b"rest" if len(data) % 2 else b""
+    # Just as many lent bytes, or more, which keep their content.
+    rest = b"rest" if len(chain) % 2 else b""
     written = ours.write_file(numbers, len(tasks), chain, len(chain), bytes(len(data)) + rest)
     compare.same(written, (("ok", len(data)), data + rest), "reading and writing", data)
     compare.same(ours.chain_of_schedule(numbers, len(tasks), chain, len(chain)), reference.chain_of_schedule(tasks, chain), "chain", data)
@@ -259,7 +265,7 @@ def files(ours, r, factor, compare):
     """schedule files: every number of tasks and of places"""
     for count in range(1, inputs.MOST_TASKS + 1):
         for places in range(1, inputs.MOST_PLACES + 1):
-            for _ in range(int(10 * factor)):
+            for _ in range(max(1, int(10 * factor))):
                 tasks, chain = inputs.schedule(r, count, places)
                 data = inputs.joined(inputs.records(tasks, chain))
                 compare.same(ours.read_file(data, r.choice([b"", data])), ("ok", tasks, chain), "reading", data)
@@ -283,7 +289,7 @@ def changed_bytes(ours, r, factor, compare):
 @group
 def cut_files(ours, r, factor, compare):
     """schedule files: cut at every length"""
-    for i in range(int(12 * factor)):
+    for i in range(max(1, int(12 * factor))):
         tasks, chain = inputs.schedule(r, 32, 12) if i == 0 else inputs.any_schedule(r)
         data = inputs.joined(inputs.records(tasks, chain))
         for n in range(len(data) + 1):
@@ -295,7 +301,7 @@ def cut_files(ours, r, factor, compare):
 @group
 def damaged_records(ours, r, factor, compare):
     """schedule files: records doubled, dropped, swapped, inserted, with other lengths and kinds; bytes after the end"""
-    for damaged in inputs.RECORD_DAMAGES:
+    for damaged, answers in inputs.RECORD_DAMAGES.items():
         for count, places in ((1, 1), (2, 2), (3, 5), (31, 12), (32, 1)):
             if damaged in (inputs.wrong_lengths, inputs.other_kinds, inputs.inserted) and count > 3:
                 # As many files for each record, so of a long file a beginning and an end of few records.
@@ -303,7 +309,7 @@ def damaged_records(ours, r, factor, compare):
             tasks, chain = inputs.schedule(r, count, places)
             for data in damaged(r, inputs.records(tasks, chain)):
                 compare_reading(ours, data, compare)
-    compare.must_meet("ok", 1, 2, 3, 4, 5, 6)
+        compare.must_meet(*answers)
 
 
 @group
@@ -313,13 +319,16 @@ def faulty_records(ours, r, factor, compare):
         tasks, chain = inputs.schedule(r, count, r.randint(1, 12))
         for data in inputs.edge_files(r, tasks, chain):
             compare_reading(ours, data, compare)
+    compare.must_meet("ok", 5)
     for places in range(1, inputs.MOST_PLACES + 1):
-        for _ in range(int(10 * factor)):
+        for _ in range(max(1, int(10 * factor))):
             for data in inputs.unknown_files(r, *inputs.schedule(r, r.choice([1, 2, 5, 32]), places)):
                 compare_reading(ours, data, compare)
+    compare.must_meet(2, 6)
     for count in (33, 33, 33, 34, 40, 64, 200):
         for data in inputs.many_tasks(r, count):
             compare_reading(ours, data, compare)
+    compare.must_meet(1, 2, 3, 4, 5)
     for data in inputs.faults_of_order(r):
         compare_reading(ours, data, compare)
     compare.must_meet("ok", 1, 2, 3, 4, 5, 6)
@@ -330,8 +339,10 @@ def random_files(ours, r, factor, compare):
     """schedule files: random bytes and random records, up to 5,000 bytes"""
     for _ in range(int(6000 * factor)):
         compare_reading(ours, inputs.random_bytes(r), compare)
+    compare.must_meet(1, 2, 3)
+    for _ in range(int(6000 * factor)):
         compare_reading(ours, inputs.random_records(r), compare)
-    compare.must_meet("ok", 1, 2, 3, 4, 5, 6)
+    compare.must_meet("ok", 1, 3, 4, 5, 6)
 
 
 def file_length(count, places):
@@ -368,27 +379,31 @@ def writing(ours, r, factor, compare):
 @group
 def writing_refused(ours, r, factor, compare):
     """writing schedule files refused: counts, tasks, chains, several faults"""
-    few, many = [0, 33, 34, 40], [2**16 + 1, 2**32 + 1, 2**63 + 1, 2**64 - 1]
-    for i in range(int(40 * factor)):
+    many = [2**16 + 1, 2**32 + 1, 2**63 + 1, 2**64 - 1]
+    for i in range(max(1, int(40 * factor))):
         tasks, chain = inputs.schedule(r, 32, 12) if i < 3 else inputs.schedule(r, r.randint(1, 4), r.randint(1, 12))
         count, places = len(tasks), len(chain)
         length = file_length(count, places)
         all_tasks, all_places = tasks + inputs.past_tasks(r, tasks), chain + inputs.past_places(r, tasks)
         for faulty in inputs.faulty_tasks(tasks):
             compare_writing(ours, r, faulty + all_tasks[count:], count, all_places, places, r.choice(lent_sizes(r, length)), compare)
+        compare.must_meet(5)
         for faulty in inputs.faulty_chains(r, tasks, chain, {task[0] for task in all_tasks[count:]}):
             compare_writing(ours, r, all_tasks, count, faulty + all_places[places:], places, r.choice(lent_sizes(r, length)), compare)
+        compare.must_meet(6)
         # Lists that hold as many as the counts say, where a list can.
         long_tasks, long_places = (tasks * 40)[:40], (chain * 40)[:40]
-        for other in [*few, *many]:
+        for other in [0, 33, 34, 40, *many]:
             compare_writing(ours, r, long_tasks, other, all_places, places, r.choice([length, 2000]), compare)
+        compare.must_meet(8)
         for other in [0, 13, 14, 40, *many]:
             compare_writing(ours, r, all_tasks, count, long_places, other, r.choice([length, 2000]), compare)
+        compare.must_meet(8)
     for _ in range(int(6000 * factor)):
         tasks, count, chain, places = inputs.several_faults(r)
         size = r.choice(lent_sizes(r, file_length(len(tasks), len(chain))))
         compare_writing(ours, r, tasks, count, chain, places, size, compare)
-    compare.must_meet(8, 5, 6, 11)
+    compare.must_meet("ok", 8, 5, 6, 11)
 
 
 @group

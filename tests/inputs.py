@@ -386,15 +386,14 @@ def wrong_lengths(r, parts):
 
 
 def other_kinds(r, parts):
-    """A record of every kind and every length up to 40, whole or cut by a byte, before each record and last."""
+    """A record of every kind and every length up to 40, before each record and last: with the rest after it, and cut by a byte as the last."""
     for i in range(len(parts) + 1):
         before, after = joined(parts[:i]), joined(parts[i:])
         for kind in (0, TASK, CHAIN, END, 4, 256 + TASK, 512 * CHAIN, MOST_NUMBER):
             for length in range(41):
                 extra = record(kind, r.randbytes(max(0, length - 4)), length)
                 yield before + extra + after
-                if i == len(parts):
-                    yield before + extra[:-1]
+                yield before + extra[:-1]
 
 
 def trailing(r, parts):
@@ -407,7 +406,8 @@ def trailing(r, parts):
     yield whole + r.randbytes(r.randint(6, 4000))
 
 
-RECORD_DAMAGES = [doubled, dropped, swapped, inserted, wrong_lengths, other_kinds, trailing]
+# With the answers that each must lead to.
+RECORD_DAMAGES = {doubled: (4, 5), dropped: (1, 4, 6), swapped: (4, 5), inserted: ("ok", 2, 3, 4, 5, 6), wrong_lengths: (1, 2), other_kinds: (1, 2, 3, 4, 5, 6), trailing: (4,)}
 
 
 # Values at and past their limits.

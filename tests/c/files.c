@@ -59,17 +59,18 @@ static void check_reading(void)
     expect("  other than 0 past the places", other_than_0(chain, 2, 12), 0);
 }
 
-/* Reads `n` bytes of A's file with one byte changed, and more after them, that must be refused so. */
+/* Reads `n` bytes of A's file, with one byte changed and five more after the end; they must be refused so. */
 static void refused(const char *what, size_t at, uint8_t byte, size_t n, uint64_t wanted)
 {
-    uint8_t bytes[53];
+    uint8_t bytes[53], kept[53];
 
     memcpy(bytes, file_a, 48);
     memcpy(bytes + 48, file_a + 43, 5);
     bytes[at] = byte;
+    memcpy(kept, bytes, 53);
     expect(what, read_file(bytes, n), wanted);
     expect("  other than 0", other_than_0(tasks, 0, 128) + other_than_0(chain, 0, 12) + other_than_0(counts, 0, 2), 0);
-    expect("  the changed byte", bytes[at], byte);
+    expect("  bytes written", memcmp(bytes, kept, 53) != 0, 0);
 }
 
 static void check_refused_reading(void)
