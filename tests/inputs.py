@@ -292,6 +292,7 @@ def lent_lists(r, n, m):
 # Schedules: tasks (number, T, D, F) and a chain of task numbers. Files: records of length, kind and body, little-endian.
 
 TASK, CHAIN, END = 1, 2, 3
+# The greatest task number is also the most that a length or a kind can be.
 MOST_TASKS, MOST_PLACES, MOST_NUMBER = 32, 12, 65535
 # The least and the greatest of each value of a task, by its position among number, T, D, F.
 LIMITS = {0: (1, MOST_NUMBER), 1: (1, 1000000), 2: (1, 4000000), 3: (0, 1000000)}
@@ -367,7 +368,8 @@ def inserted(r, parts):
     """Before each record and last: each record of the file, a task that rises on, one that does not, other chains, other kinds."""
     last = max(struct.unpack_from("<H", part, 4)[0] for part in parts[:-2])
     rising_on = [task_record(number, 1, 1, 0) for number in {1, last, min(last + 1, MOST_NUMBER), MOST_NUMBER}]
-    others = [chain_record([last]), chain_record([0]), chain_record([]), record(0, b""), record(4, b""), record(END, b"x"), record(r.randint(4, MOST_NUMBER), r.randbytes(r.randint(0, 20)))]
+    others = [chain_record([last]), chain_record([0]), chain_record([]), record(0, b""), record(4, b""), record(END, b"x")]
+    others.append(record(r.randint(4, MOST_NUMBER), r.randbytes(r.randint(0, 20))))
     for i in range(len(parts) + 1):
         for extra in [*parts, *rising_on, *others]:
             yield joined([*parts[:i], extra, *parts[i:]])
@@ -389,7 +391,7 @@ def other_kinds(r, parts):
     """A record of every kind and every length up to 40, before each record and last: with the rest after it, and cut by a byte as the last."""
     for i in range(len(parts) + 1):
         before, after = joined(parts[:i]), joined(parts[i:])
-        for kind in (0, TASK, CHAIN, END, 4, 256 + TASK, 512 * CHAIN, MOST_NUMBER):
+        for kind in (0, TASK, CHAIN, END, 4, 256 + TASK, 256 * CHAIN, MOST_NUMBER):
             for length in range(41):
                 extra = record(kind, r.randbytes(max(0, length - 4)), length)
                 yield before + extra + after
@@ -407,7 +409,15 @@ def trailing(r, parts):
 
 
 # With the answers that each must lead to.
-RECORD_DAMAGES = {doubled: (4, 5), dropped: (1, 4, 6), swapped: (4, 5), inserted: ("ok", 2, 3, 4, 5, 6), wrong_lengths: (1, 2), other_kinds: (1, 2, 3, 4, 5, 6), trailing: (4,)}
+RECORD_DAMAGES = {
+    doubled: (4, 5),
+    dropped: (1, 4, 6),
+    swapped: (4, 5),
+    inserted: ("ok", 2, 3, 4, 5, 6),
+    wrong_lengths: (1, 2),
+    other_kinds: (1, 2, 3, 4, 5, 6),
+    trailing: (4,),
+}
 
 
 # Values at and past their limits.
@@ -472,8 +482,11 @@ def faults_of_order(r):
     the tests decides which fault is told."""
     tasks, chain = schedule(r, 32, 3)
     known, strange = tasks[0][0], unknown(r, tasks)
-    beginnings = [[], records(tasks[:1], chain)[:1], records(tasks[:2], chain)[:2], records(tasks, chain)[:32], records(tasks[:1], [known])[:2], records(tasks, chain)[:33], records(tasks[:2], [known])]
-    bodies = [task_record(*task)[4:] for task in (tasks[2], tasks[0], (0, 1, 1, 0), (MOST_NUMBER, 0, 1, 0), (MOST_NUMBER, 1, 0, 0), (MOST_NUMBER, 1, 1, 1000001), (0, 0, 0, 2**32 - 1))]
+    one, two, all_tasks = records(tasks[:1], [known]), records(tasks[:2], [known]), records(tasks, chain)
+    # Nothing, one task, two, all; then with the chain, and a whole file.
+    beginnings = [[], one[:1], two[:2], all_tasks[:32], one[:2], all_tasks[:33], two]
+    faulty = [(0, 1, 1, 0), (MOST_NUMBER, 0, 1, 0), (MOST_NUMBER, 1, 0, 0), (MOST_NUMBER, 1, 1, 1000001), (0, 0, 0, 2**32 - 1)]
+    bodies = [task_record(*task)[4:] for task in [tasks[2], tasks[0], *faulty]]
     bodies += [chain_record(numbers)[4:] for numbers in ([known], [strange], [known, strange], [strange] * 12, [strange] * 13, [])]
     for beginning, kind, body in itertools.product(beginnings, (0, TASK, CHAIN, END, 4), bodies):
         for length in {0, 3, 4, 5, 6, 18, len(body) + 3, len(body) + 4, len(body) + 5, MOST_NUMBER}:
