@@ -14,14 +14,14 @@ use Rattle.report.proofs.put_anchors.Tie as tie
 
 abbrev Inv-loop : tie.InvT-loop
 Inv-loop out₀ at starts latencies g end₀ i₀ t8 out end i =
-    (i ≤ g) × (end ≤ at + 22 * i) × (length out ≡ length out₀) × (t8 ≡ ascii "a")
-    × Left (anchorLines (anchors starts latencies g)) at out₀ (anchorLines (drop i (anchors starts latencies g))) end out
+    Left (anchorLines (anchors starts latencies g)) at out₀ (anchorLines (drop i (anchors starts latencies g))) end out
+    × (i ≤ g) × (end ≤ at + 22 * i) × (length out ≡ length out₀) × (t8 ≡ ascii "a")
 
 abbrev μ-loop : tie.MeasureT-loop
 μ-loop out₀ at starts latencies g end₀ i₀ t8 out end i = g - i
 
 loop-holds : tie.Need-loop-holds Inv-loop μ-loop
-loop-holds c = (omega arith, omega arith, refl, refl, left-all _ _ _)
+loop-holds c = (left-all _ _ _, omega arith, omega arith, refl, refl)
 
 slice-aggregate-put-pair : tie.Need-slice-aggregate-put-pair Inv-loop μ-loop
 slice-aggregate-put-pair c = search needs
@@ -53,11 +53,11 @@ loop-again c =
     let s = c .before .before .before .before .before .before .before .before .before .before .before .before in
     let p = c .before .before .put-pair .ensures .0 in
     let x = s .pre .3 (l .i) (c .before .before .before .before .before .before .before .loop-test .taken) in (
+      anchor-turn (s .args .starts .now) (s .args .latencies .now) (s .args .g) (s .pre .0) (s .pre .1) (l .i) (c .before .before .before .before .before .before .before .loop-test .taken) _ _ _ _ _ _ _ (l .inv .0) p,
       omega arith,
       omega (arith, p .ends, anchor-short _ _ (x .0) (x .1)),
-      puts-length _ _ _ _ _ p ∙ l .inv .2,
+      puts-length _ _ _ _ _ p ∙ l .inv .3,
       refl,
-      anchor-turn (s .args .starts .now) (s .args .latencies .now) (s .args .g) (s .pre .0) (s .pre .1) (l .i) (c .before .before .before .before .before .before .before .loop-test .taken) _ _ _ _ _ _ _ (l .inv .4) p,
     )
 
 same-length : tie.Need-same-length Inv-loop μ-loop
@@ -66,7 +66,7 @@ same-length c = search needs
 returns : tie.Need-returns Inv-loop μ-loop
 returns c =
     let l = c .before .loop in
-    (anchor-end _ _ _ (l .i) (omega arith) _ _ _ _ _ (l .inv .4), omega arith)
+    (anchor-end _ _ _ (l .i) (omega arith) _ _ _ _ _ (l .inv .0), omega arith)
 
 pub put-anchors-spec : {M : Type 1} → statement M
 put-anchors-spec =
