@@ -7,14 +7,12 @@ use Rattle.chain.specs.declared.Chain.{Chain}
 use Rattle.chain.specs.Chains.{zeroTask}
 use Rattle.schedule.specs.Schedules.{padded}
 
--- A list whose first k records are a chain's tasks, and whose length is the number of its places; zeros past the tasks.
-unfoldable pub chainOfFirst : ℕ → List Task → Chain
-chainOfFirst k ts = record { tasks = padded 12 zeroTask (take k ts); places = length ts }
-
--- The chain of a lent list: its first twelve records at the places, as many places as the list has records.
+-- The chain of a lent list: its first twelve records, zeros past them, and as many places as the list has records.
 -- So a list of no record or of more than twelve is refused with 8, as every chain of that many places is.
-abbrev pub chainOfList : List Task → Chain
-chainOfList ts = chainOfFirst 12 ts
+unfoldable pub chainOfList : List Task → Chain
+chainOfList ts = record { tasks = padded 12 zeroTask (take 12 ts); places = length ts }
+
+-- ---- how it is copied
 
 -- A chain of n places with zeros for its tasks.
 abbrev pub emptyChain : ℕ → Chain

@@ -67,7 +67,7 @@ fn chain_of(tasks: &[Task]) -> Chain
 
 // Makes the table of the lent list's chain, cut at place p, p counted from 1. A list of no record or of more than twelve is refused with 8.
 pub fn make_table_of(tasks: &[Task], p: usize, starts: &mut [u64], latencies: &mut [u64]) -> Made
-    ensures { λ r. ⌜ Makes (chainOfList (now (tasks .entry))) p (now (starts .entry)) (now (latencies .entry)) (now (starts .exit)) (now (latencies .exit)) r ⌝ }
+    ensures { λ r. ⌜ Makes (chainOfList (now (tasks .entry))) p (now (starts .entry)) (now (latencies .entry)) (now (starts .exit)) (now (latencies .exit)) r × (now (tasks .exit) ≡ now (tasks .entry)) ⌝ }
 {
     let c = chain_of(tasks);
     maker::make_table(c, p, starts, latencies)

@@ -53,8 +53,8 @@ use Rattle.chain.specs.declared.Chain.{Chain}
 use Rattle.chain.specs.Chains.{zeroTask}
 use Rattle.chain.proofs.Chain as Ch
 use Rattle.chain.proofs.Chain.Laws as Ch′
-use Rattle.lent_chain.specs.LentList.{chainOfFirst, chainOfList, emptyChain, withTask}
-use Rattle.lent_chain.specs.ListLaws.{copied-none, copied-next, copied-all}
+use Rattle.lent_chain.specs.LentList.{chainOfList, emptyChain, withTask}
+use Rattle.lent_chain.proofs.Copying.{copied, copied-none, copied-next, copied-all}
 use Rattle.lent_chain.proofs.task_at as task-at
 use Rattle.lent_chain.proofs.task_at.Symbol as task-at-def
 use Rattle.lent_chain.proofs.task_at.Symbol.{name as #lent_chain·task-at}
@@ -116,7 +116,7 @@ module _ {M : Type 1} (𝓤 : URA M) (H : Heap 𝓤) (A : Atoms 𝓤) (W : Given
 
   -- the chain while k tasks are copied
   abbrev upTo : ℕ → Chain
-  upTo k = chainOfFirst k ts
+  upTo k = copied k ts
 
   abbrev v : Val
   v = sliceVal (s .ptr) n

@@ -151,7 +151,7 @@ module _ {M : Type 1} (𝓤 : URA M) (H : Heap 𝓤) (A : Atoms 𝓤) (W : Given
       → ent 𝓤 (⋆ 𝓤 H A (‵ (Md.the-row .own r (w ∷ [])) ∷ T₁₂ ∷ ‵ (finally u64 (y .name) ys) ∷ ‵ (finally u64 (x .name) xs) ∷ ‵ Os ∷ T₀ ∷ [])) (Post w)
   exits r w xs ys e lx ly =
       qed W (‵ (Md.the-row .own r (w ∷ [])) ∷ T₁₂ ∷ ‵ (finally u64 (y .name) ys) ∷ ‵ (finally u64 (x .name) xs) ∷ ‵ Os ∷ T₀ ∷ []) ∵
-      suffices ! _ (ends-at 𝓤 H A f.ended stayed (f.clauses 𝓤 H A mem run) W ((κs, (q₀, (q₁, (q₂, tt))), tt, (s, (p, (x, (y, tt)))), at), tt) w r (tt, (tt, (xs, (ys, tt)))) (tt, (tt, (lx, (ly, tt))))) $ says ! e $
+      suffices ! _ (ends-at 𝓤 H A f.ended stayed (f.clauses 𝓤 H A mem run) W ((κs, (q₀, (q₁, (q₂, tt))), tt, (s, (p, (x, (y, tt)))), at), tt) w r (tt, (tt, (xs, (ys, tt)))) (tt, (tt, (lx, (ly, tt))))) $ says ! (e, refl) $
       move ! (5 ∷ []) $ split ! $ move ! (0 ∷ 3 ∷ []) $ join ! $ frame ! $
       -- [true; the result; y's last list; x's; Os]
       move ! (2 ∷ 0 ∷ []) $ fjoin ! $ move ! (2 ∷ 0 ∷ []) $ fjoin ! $ owned ! usize (Is usize) (uint-makes 𝓤 H A W w64) p _ (refl, p-fits) $ fjoin ! $ move ! (2 ∷ 0 ∷ []) $ fjoin ! $ frame ! $ done !
