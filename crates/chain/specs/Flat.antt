@@ -1,12 +1,12 @@
 -- A chain's tasks as the flat list T, D, F, T, D, F, ..
-use Prim.Native.Nat.{ℕ, zero, suc, _+_, _*_, _/_, _≤_, _<_}
+use Prim.Native.Nat.{ℕ, zero, suc, _+_, _-_, _*_, _/_, _≤_, _<_}
 use native.Mathlib.Omega.{arith}
 use mathlib.Core.Path.{_≡_, refl, sym, ap, _∙_}
 use mathlib.Core.List.{List, [], _∷_, _++_}
 use lib.ListN.{length, getD, take}
 use Rattle.task.specs.declared.Task.{Task}
 use Rattle.chain.specs.declared.Chain.{Chain}
-use Rattle.chain.specs.Chains.{tasksOf, at}
+use Rattle.chain.specs.Chains.{tasksOf, at, lastPlace}
 
 -- The numbers of each element, one after the other.
 unfoldable pub flatOf : {A : Type 0} → (A → List ℕ) → List A → List ℕ
@@ -44,6 +44,9 @@ in-all (t ∷ d ∷ f ∷ l) = omega (arith, in-all l)
 
 pub in-count : (l : List ℕ) → length l / 3 ≡ length (tasksIn l)
 in-count l = omega (arith, in-long l, in-all l)
+
+pub in-last : (l : List ℕ) → length l / 3 - 1 ≡ lastPlace (tasksIn l)
+in-last l = ap (λ (n : ℕ). n - 1) (in-count l)
 
 -- ---- each of them
 

@@ -1,5 +1,5 @@
 -- A partition of a checked chain's tasks, with the places as the code counts them; no number on its ways is large.
-use Prim.Native.Nat.{ℕ, _+_, _-_, _*_, _/_, _≤_, _<_}
+use Prim.Native.Nat.{ℕ, _+_, _-_, _*_, _≤_, _<_}
 use native.Mathlib.Omega.{arith}
 use mathlib.Core.Path.{_≡_, refl, sym, ap, _∙_}
 use mathlib.Core.List.{List}
@@ -11,7 +11,6 @@ use Rattle.task.specs.Jobs.{readOf, writeOf, Within}
 use Rattle.task.specs.LinkLaws.{job-small, read-mono}
 use Rattle.chain.specs.Chains.{at, lastPlace, forwardBy, backwardBy, jobOf}
 use Rattle.chain.specs.Checks.{Sound}
-use Rattle.chain.specs.Flat.{tasksIn, in-count}
 use Rattle.chain.specs.Ranges.{forward-fits, forward-late, backward-fits}
 use Rattle.timing.specs.WarmUp.{warmAt}
 use Rattle.timing.specs.WarmLaws.{start-there}
@@ -81,10 +80,6 @@ module _ (l : List Task) (ok : Sound l) (p m : ℕ) where
 
   pub job-top : p < length l → writeOf (at l p) (m + 1) ≤ 1000000000000 → m + 1 ≤ 1000000000000
   job-top h top = omega (arith, job-fits l ok p h (m + 1))
-
--- the last place, as the code counts it
-pub last-is : (t : List ℕ) → length t / 3 - 1 ≡ lastPlace (tasksIn t)
-last-is t = ap (λ (n : ℕ). n - 1) (in-count t)
 
 -- a partition is that of its own job
 pub own : (l : List Task) (p m : ℕ) (x : Partition) → IsPartition l p m x → IsPartition l p (x .job .0) x

@@ -3,8 +3,8 @@ use Prim.Native.Nat.{_-_, _/_}
 use mathlib.Core.Path.{_≡_, refl, sym, ap, _∙_}
 use lib.ListN.{length}
 use Rattle.chain.specs.Chains.{backwardBy, jobOf}
-use Rattle.chain.specs.Flat.{tasksIn, in-count}
-use Rattle.partition.proofs.Bounds.{start-is, end-is, start-small, end-small, job-top, last-is}
+use Rattle.chain.specs.Flat.{tasksIn, in-count, in-last}
+use Rattle.partition.proofs.Bounds.{start-is, end-is, start-small, end-small, job-top}
 use borrow.Author.Needs.{needs}
 use Rattle.partition.proofs.of_job.Statement.{statement}
 use Rattle.partition.proofs.of_job.Tie as tie
@@ -50,7 +50,7 @@ task-at-requires-2 c κs =
 write-requires : tie.Need-write-requires
 write-requires c κs =
     let s = c .before .before .before .before .before .before .before .before in
-    end-small (tasksIn (s .args .tasks .now)) (s .pre .0) (s .args .p) (s .args .m .0) _ _ _ (last-is (s .args .tasks .now)) (c .task-at2 .ensures) (c .before .forward-on .ensures) (s .pre .1) (s .pre .2)
+    end-small (tasksIn (s .args .tasks .now)) (s .pre .0) (s .args .p) (s .args .m .0) _ _ _ (in-last (s .args .tasks .now)) (c .task-at2 .ensures) (c .before .forward-on .ensures) (s .pre .1) (s .pre .2)
 
 returns : tie.Need-returns
 returns c =
@@ -59,7 +59,7 @@ returns c =
     record {
       of = refl;
       starts = r .read .ensures ∙ start-is (tasksIn (s .args .tasks .now)) (s .pre .0) (s .args .p) (s .args .m .0) _ _ (r .before .task-at .ensures) (back (r .before .before));
-      ends = c .write .ensures ∙ end-is (tasksIn (s .args .tasks .now)) (s .pre .0) (s .args .p) (s .args .m .0) _ _ _ (last-is (s .args .tasks .now)) (c .before .task-at2 .ensures) (c .before .before .forward-on .ensures);
+      ends = c .write .ensures ∙ end-is (tasksIn (s .args .tasks .now)) (s .pre .0) (s .args .p) (s .args .m .0) _ _ _ (in-last (s .args .tasks .now)) (c .before .task-at2 .ensures) (c .before .before .forward-on .ensures);
     }
 
 pub of-job-spec : {M : Type 1} → statement M
