@@ -3,7 +3,7 @@ use Prim.Native.Nat.{ℕ, _≤_}
 use mathlib.Core.Path.{_≡_, sym, ap, _∙_, subst}
 use mathlib.Core.List.{List, _++_, append-nil}
 use lib.ListN.{length, take, drop, drop-of-length-le}
-use lib.Seq.{take-all, length-take-le}
+use lib.Seq.{take-all, take-at, length-take-le}
 use Rattle.maker.specs.Making.{overlay}
 use Rattle.agreement.specs.MadeTable.{overlay-length}
 use Rattle.report.specs.Report.{reportOf, Reports}
@@ -21,3 +21,10 @@ text-cut text old h =
 pub front-length : (bytes old new : List ℕ) (n : ℕ) → Reports bytes old new n → n ≤ length old → n ≡ length (take n new)
 front-length bytes old new n r h =
     sym (length-take-le n new (subst (λ (k : ℕ). n ≤ k) (sym (ap length (r .leaves) ∙ overlay-length (reportOf bytes) old)) h))
+
+-- So the front of lent bytes that are enough is the text.
+pub front-is-text : (bytes old new : List ℕ) (n : ℕ) → Reports bytes old new n → n ≤ length old → take n new ≡ reportOf bytes
+front-is-text bytes old new n r h =
+    let e : length (reportOf bytes) ≡ n = sym (r .answers) in
+    let f : new ≡ reportOf bytes ++ drop (length (reportOf bytes)) old = r .leaves ∙ text-fits (reportOf bytes) old (subst (λ (k : ℕ). k ≤ length old) (r .answers) h) in
+    ap (take n) f ∙ take-at (reportOf bytes) _ n e

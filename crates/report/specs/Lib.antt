@@ -2,4 +2,5 @@ pub mod Report
 pub mod LongestPlace
 pub mod Widths
 pub mod Lent
+pub mod Ties
 pub mod Survey
