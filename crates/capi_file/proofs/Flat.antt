@@ -7,9 +7,11 @@ use mathlib.Core.Path.{_≡_, refl, sym, ap, _∙_}
 use mathlib.Core.List.{List, [], _∷_, _++_, append-assoc, append-nil}
 use lib.ListN.{length, getD, set, take, replicate, length-append, length-set}
 use lib.Seq.{sets, take-all, length-take-le}
+use Rattle.chain.specs.Flat.{flatOf}
+use Rattle.chain.proofs.Filling.{length-flat, flat-more}
 use Rattle.schedule.specs.Schedules.{padded}
 use Rattle.schedule.specs.Padding.{padded-none, padded-set, padded-same, padded-whole}
-use Rattle.capi_file.specs.FlatSchedule.{entriesOf, flatOf}
+use Rattle.capi_file.specs.FlatSchedule.{entriesOf}
 
 -- ---- arrays from a rule
 
@@ -58,17 +60,6 @@ padded-sets n d (v ∷ vs) l at e h =
     ∙ ap (padded n d) (append-assoc l (v ∷ []) vs)
 
 module _ {A : Type 0} (f : A → List ℕ) (k : ℕ) (each : (x : A) → length (f x) ≡ k) where
-  length-flat : (l : List A) → length (flatOf f l) ≡ k * length l
-  unfolding flatOf
-  length-flat [] = omega arith
-  length-flat (x ∷ l) = length-append (f x) (flatOf f l) ∙ (omega (arith, each x, length-flat l))
-
-  flat-more : (d : A) (l : List A) (i : ℕ) → i < length l → flatOf f (take (suc i) l) ≡ flatOf f (take i l) ++ f (getD l i d)
-  unfolding flatOf
-  flat-more d [] i h = absurd (omega arith)
-  flat-more d (x ∷ l) zero h = append-nil (f x)
-  flat-more d (x ∷ l) (suc i) h = ap (λ (r : List ℕ). f x ++ r) (flat-more d l i (omega arith)) ∙ sym (append-assoc (f x) (flatOf f (take i l)) (f (getD l i d)))
-
   pub flat-none : (n : ℕ) (all : List A) → replicate n 0 ≡ padded n 0 (flatOf f (take 0 all))
   unfolding flatOf
   flat-none n all = sym (padded-none 0 n)
@@ -79,15 +70,15 @@ module _ {A : Type 0} (f : A → List ℕ) (k : ℕ) (each : (x : A) → length 
       let t : length (take i all) ≡ i = length-take-le i all (omega arith) in
       let m : k * suc i ≤ k * length all = mul-le-mul-left k (omega arith) in
       ap (λ (l : List ℕ). sets l (k * i) (f (getD all i d))) e
-      ∙ padded-sets n 0 (f (getD all i d)) (flatOf f (take i all)) (k * i) (length-flat (take i all) ∙ ap (λ (x : ℕ). k * x) t) (omega (arith, each (getD all i d)))
-      ∙ ap (padded n 0) (sym (flat-more d all i h)) ∙ ap (λ (x : ℕ). padded n 0 (flatOf f (take x all))) (sym (add-one i))
+      ∙ padded-sets n 0 (f (getD all i d)) (flatOf f (take i all)) (k * i) (length-flat f k each (take i all) ∙ ap (λ (x : ℕ). k * x) t) (omega (arith, each (getD all i d)))
+      ∙ ap (padded n 0) (sym (flat-more f k each d all i h)) ∙ ap (λ (x : ℕ). padded n 0 (flatOf f (take x all))) (sym (add-one i))
 
   -- all elements are stored, in an array of just their length
   pub flat-end : (n : ℕ) (all : List A) (i : ℕ) (flat : List ℕ) → length all ≤ i → n ≡ k * length all → flat ≡ padded n 0 (flatOf f (take i all)) → flat ≡ flatOf f all
   flat-end n all i flat h g e =
-      e ∙ ap (λ (l : List A). padded n 0 (flatOf f l)) (take-all i all h) ∙ padded-whole 0 n (flatOf f all) (omega (arith, length-flat all))
+      e ∙ ap (λ (l : List A). padded n 0 (flatOf f l)) (take-all i all h) ∙ padded-whole 0 n (flatOf f all) (omega (arith, length-flat f k each all))
 
-pub three-stores : (l : List ℕ) (at a b c : ℕ) → set (set (set l at a) (at + 1) b) (at + 2) c ≡ sets l at (a ∷ b ∷ c ∷ [])
+three-stores : (l : List ℕ) (at a b c : ℕ) → set (set (set l at a) (at + 1) b) (at + 2) c ≡ sets l at (a ∷ b ∷ c ∷ [])
 three-stores l at a b c =
     let p : at + 1 ≡ suc at = omega arith in
     let q : at + 2 ≡ suc (suc at) = omega arith in
@@ -99,8 +90,5 @@ four-stores l at a b c d =
     rw r (ap (λ (m : List ℕ). set m (suc (suc (suc at))) d) (three-stores l at a b c))
 
 -- stores leave the length
-pub kept-three : (l : List ℕ) (n i j k a b c : ℕ) → length l ≡ n → length (set (set (set l i a) j b) k c) ≡ n
-kept-three l n i j k a b c h = simp length-set h
-
 pub kept-four : (l : List ℕ) (n i j k m a b c d : ℕ) → length l ≡ n → length (set (set (set (set l i a) j b) k c) m d) ≡ n
 kept-four l n i j k m a b c d h = simp length-set h

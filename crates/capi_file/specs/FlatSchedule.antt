@@ -1,10 +1,10 @@
 -- A schedule as C gives it: the flat list number, T, D, F, .. of its tasks with their count, and the list of its chain's task numbers with the number of places.
 use Prim.Native.Nat.{ℕ, zero, suc, _+_, _*_, _/_, _%_}
 use mathlib.Core.Bool.{cond, _&&_}
-use mathlib.Core.List.{List, [], _∷_, _++_}
+use mathlib.Core.List.{List, [], _∷_}
 use lib.Dec.{leb, eqb}
 use lib.ListN.{length, getD}
-use Rattle.task.specs.declared.Task.{Task}
+use Rattle.chain.specs.Flat.{flatOf}
 use Rattle.schedule.specs.declared.NumberedTask.{NumberedTask}
 use Rattle.schedule.specs.declared.Schedule.{Schedule}
 use Rattle.schedule.specs.Schedules.{zeroNumbered}
@@ -47,20 +47,9 @@ scheduleFrom tasks count chain places = record {
   places = placesFrom (length chain) places;
 }
 
--- The numbers of each element, one after the other.
-unfoldable pub flatOf : {A : Type 0} → (A → List ℕ) → List A → List ℕ
-flatOf f [] = []
-flatOf f (x ∷ l) = f x ++ flatOf f l
-
--- number, T, D, F of a schedule's task; T, D, F of a chain's.
+-- number, T, D, F of a schedule's task.
 abbrev pub numberedFields : NumberedTask → List ℕ
 numberedFields t = t .number ∷ t .task .period ∷ t .task .duration ∷ t .task .phase ∷ []
 
-abbrev pub taskFields : Task → List ℕ
-taskFields a = a .period ∷ a .duration ∷ a .phase ∷ []
-
 abbrev pub flatTasks : List NumberedTask → List ℕ
 flatTasks ts = flatOf numberedFields ts
-
-abbrev pub flatChain : List Task → List ℕ
-flatChain l = flatOf taskFields l

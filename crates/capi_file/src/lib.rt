@@ -8,9 +8,10 @@ use task::Task;
 ghost use mathlib.Core.Path.{_≡_};
 ghost use Prim.Native.Nat.{_+_, _*_, _≤_, _<_};
 ghost use lib.ListN.{length};
+ghost use Rattle.chain.specs.Flat.{flatChain};
 ghost use Rattle.schedule.specs.Schedules.{chainOf};
 ghost use Rattle.file_reader.specs.Reading.{readFile};
-ghost use Rattle.capi_file.specs.FlatSchedule.{numberedAt, countFrom, placesFrom, placeAt, tasksFrom, chainFrom, scheduleFrom, flatTasks, flatChain};
+ghost use Rattle.capi_file.specs.FlatSchedule.{numberedAt, countFrom, placesFrom, placeAt, tasksFrom, chainFrom, scheduleFrom, flatTasks};
 ghost use Rattle.capi_file.specs.Calls.{GivesSchedule, GivesFile};
 
 // ---- a schedule from flat lists
@@ -137,22 +138,6 @@ fn flat_tasks(tasks: [NumberedTask; 32]) -> [u64; 128]
     flat
 }
 
-// The tasks of a chain as the flat list T, D, F, ..
-fn flat_chain(tasks: [Task; 12]) -> [u64; 36]
-    ensures { λ r. ⌜ r ≡ flatChain tasks ⌝ }
-{
-    let mut flat = [0u64; 36];
-    let mut i: usize = 0;
-    while i < 12 {
-        let a = tasks[i];
-        flat[3 * i] = a.period;
-        flat[3 * i + 1] = a.duration;
-        flat[3 * i + 2] = a.phase;
-        i += 1;
-    }
-    flat
-}
-
 // ---- the calls
 
 // Reads a schedule file: its tasks and its chain, zeros past them, and their two counts.
@@ -213,7 +198,6 @@ pub extern "C" fn mo_chain_of_schedule(
     ensures { λ r. ⌜ (r ≡ chainOf (scheduleFrom (now (tasks .entry)) count (now (chain .entry)) places) .places) × (now (flat .exit) ≡ flatChain (chainOf (scheduleFrom (now (tasks .entry)) count (now (chain .entry)) places) .tasks)) ⌝ }
 {
     let c = schedule::chain_of(schedule_from(tasks, count, chain, places));
-    let all = c.tasks;
-    *flat = flat_chain(all);
+    *flat = chain::flat(c);
     c.places as u64
 }

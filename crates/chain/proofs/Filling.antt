@@ -3,25 +3,27 @@ use Prim.Native.Nat.{ℕ, zero, suc, _+_, _*_, _≤_, _<_}
 use native.Mathlib.Omega.{arith}
 use native.Mathlib.Numerals.{add-one}
 use mathlib.Core.Path.{_≡_, refl, sym, ap, _∙_}
-use mathlib.Core.List.{List, [], _∷_, _++_, append-assoc}
-use lib.ListN.{length, set, take, length-set, length-take}
+use mathlib.Core.List.{List, [], _∷_, _++_, append-assoc, append-nil}
+use lib.ListN.{length, getD, set, take, length-append, length-set, length-take}
 use lib.Seq.{take-all, take-suc-set, length-take-le}
 use Rattle.task.specs.declared.Task.{Task}
 use Rattle.chain.specs.declared.Chain.{Chain}
-use Rattle.chain.specs.Chains.{tasksOf, at}
+use Rattle.chain.specs.Chains.{tasksOf, at, zeroTask}
 use Rattle.chain.specs.Checks.{Sound, Checked}
 use Rattle.chain.specs.Flat.{flatOf, taskFields, flatChain, tasksIn, flat-front}
 
-flat-more : (l : List Task) (i : ℕ) → i < length l → flatChain (take (suc i) l) ≡ flatChain (take i l) ++ taskFields (at l i)
-unfolding flatOf
-flat-more [] i h = absurd (omega arith)
-flat-more (a ∷ l) zero h = refl
-flat-more (a ∷ l) (suc i) h = ap (λ (r : List ℕ). taskFields a ++ r) (flat-more l i (omega arith))
+-- of elements that have k numbers each
+module _ {A : Type 0} (f : A → List ℕ) (k : ℕ) (each : (x : A) → length (f x) ≡ k) where
+  pub length-flat : (l : List A) → length (flatOf f l) ≡ k * length l
+  unfolding flatOf
+  length-flat [] = omega arith
+  length-flat (x ∷ l) = length-append (f x) (flatOf f l) ∙ (omega (arith, each x, length-flat l))
 
-length-flat : (l : List Task) → length (flatChain l) ≡ 3 * length l
-unfolding flatOf
-length-flat [] = omega arith
-length-flat (a ∷ l) = omega (arith, length-flat l)
+  pub flat-more : (d : A) (l : List A) (i : ℕ) → i < length l → flatOf f (take (suc i) l) ≡ flatOf f (take i l) ++ f (getD l i d)
+  unfolding flatOf
+  flat-more d [] i h = absurd (omega arith)
+  flat-more d (x ∷ l) zero h = append-nil (f x)
+  flat-more d (x ∷ l) (suc i) h = ap (λ (r : List ℕ). f x ++ r) (flat-more d l i (omega arith)) ∙ sym (append-assoc (f x) (flatOf f (take i l)) (f (getD l i d)))
 
 module _ (list : List ℕ) (k x y z : ℕ) (h : k + 3 ≤ length list) where
   three-stores : take (k + 3) (set (set (set list k x) (k + 1) y) (k + 2) z) ≡ take k list ++ (x ∷ y ∷ z ∷ [])
@@ -43,7 +45,7 @@ pub flat-turn : (l : List Task) (list : List ℕ) (i : ℕ) → i < length l →
 flat-turn l list i h g e =
     let n : 3 * (i + 1) ≡ 3 * i + 3 = omega arith in
     ap (λ (x : ℕ). take x (set (set (set list (3 * i) (at l i .period)) (3 * i + 1) (at l i .duration)) (3 * i + 2) (at l i .phase))) n
-    ∙ three-stores list (3 * i) (at l i .period) (at l i .duration) (at l i .phase) g ∙ ap (λ (r : List ℕ). r ++ taskFields (at l i)) e ∙ sym (flat-more l i h) ∙ ap (λ (x : ℕ). flatChain (take x l)) (sym (add-one i))
+    ∙ three-stores list (3 * i) (at l i .period) (at l i .duration) (at l i .phase) g ∙ ap (λ (r : List ℕ). r ++ taskFields (at l i)) e ∙ sym (flat-more taskFields 3 (λ x. refl) zeroTask l i h) ∙ ap (λ (x : ℕ). flatChain (take x l)) (sym (add-one i))
 
 -- the list is filled
 pub flat-end : (l : List Task) (list : List ℕ) (i : ℕ) → length l ≤ i → length list ≤ 3 * i → take (3 * i) list ≡ flatChain (take i l) → list ≡ flatChain l
@@ -66,4 +68,4 @@ module _ (c : Chain) (k : Checked c) (list : List ℕ) (filled : list ≡ flatCh
   front-count = rw front-is (k .counted)
 
   pub front-length : 3 * c .places ≡ length (take (3 * c .places) list)
-  front-length = sym (length-take-le (3 * c .places) list (omega (arith, ap length filled, length-flat (c .tasks), length-take (c .places) (c .tasks), k .counted)))
+  front-length = sym (length-take-le (3 * c .places) list (omega (arith, ap length filled, length-flat taskFields 3 (λ x. refl) (c .tasks), length-take (c .places) (c .tasks), k .counted)))
