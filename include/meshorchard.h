@@ -4,9 +4,10 @@
  * All times are whole ticks; a tick is 1 microsecond. The calls keep nothing, allocate nothing and always return. They answer for any
  * values: none of the arguments has to be checked first.
  *
- * Lists and numbers are lent for the time of a call. A list is a pointer and the number of its entries; only mo_make_table writes to
- * lists. A number that a call gives is lent as a pointer. No pointer may be null, also that of a list of 0 entries, and each must point to
- * as many entries as are named. The numbers and lists that a call writes lie apart from each other and from all else that is lent to it.
+ * Lists and numbers are lent for the time of a call. A list is a pointer and the number of its entries; only mo_make_table and
+ * mo_write_file write to lists. A number that a call gives is lent as a pointer, several of them as an array that the call writes whole.
+ * No pointer may be null, also that of a list of 0 entries, and each must point to as many entries as are named. The numbers, arrays and
+ * lists that a call writes lie apart from each other and from all else that is lent to it.
  *
  * Archives, each made by `rt staticlib NAME`; they can be linked together:
  *   libtable.a          mo_read_table
@@ -14,6 +15,7 @@
  *   libcapi_timing.a    mo_check, mo_warm_up, mo_delay, mo_age
  *   libcapi_maker.a     mo_make_table
  *   libcapi_windows.a   mo_windows
+ *   libcapi_file.a      mo_read_file, mo_write_file, mo_chain_of_schedule
  */
 #ifndef MESHORCHARD_H
 #define MESHORCHARD_H
@@ -28,21 +30,31 @@ extern "C" {
 /*
  * Refusals: the numbers of document 01.
  */
-#define MO_TASK_OUTSIDE_LIMITS 5u      /* a period, duration or phase of the chain; the place is the task's place, from 1 */
+#define MO_FILE_ENDS_EARLY 1u          /* reading a file: fewer than 4 bytes remain, or a record runs past the file */
+#define MO_RECORD_LENGTH_WRONG 2u      /* reading a file: a length below 4, or one that its kind does not have */
+#define MO_RECORD_KIND_UNKNOWN 3u      /* reading a file: the kind is not 1, 2 or 3 */
+#define MO_RECORD_OUT_OF_TURN 4u       /* reading a file: a record that may not stand there, or a byte after the end */
+#define MO_TASK_OUTSIDE_LIMITS 5u      /* a task's period, duration or phase; in a file or a schedule being written also its number */
+#define MO_TASK_UNKNOWN 6u             /* a file or a schedule being written: the chain has a number that no task has */
 #define MO_HYPERPERIOD_TOO_LONG 7u     /* above 60,000,000 */
-#define MO_PLACES_OUTSIDE_LIMITS 8u    /* not 1 to 12, or the list of tasks does not hold them */
+#define MO_PLACES_OUTSIDE_LIMITS 8u    /* places not 1 to 12, or tasks of a schedule not 1 to 32, or a list does not hold them */
 #define MO_CUT_OUTSIDE_PLACES 9u       /* making: the place of the cut is not one of the chain */
 #define MO_LISTS_UNEQUAL 10u           /* making: the two lists have different lengths */
-#define MO_LISTS_TOO_SHORT 11u         /* making: the lists are shorter than the number of anchors */
+#define MO_LISTS_TOO_SHORT 11u         /* making: shorter than the number of anchors; writing a file: the bytes are fewer than the file's */
 #define MO_TICK_TOO_EARLY 12u          /* reading a table: below the first start; a chain: below its first tick for the call */
 #define MO_TICK_TOO_LATE 13u           /* above MO_UPPER_TICK */
 #define MO_TABLE_NOT_WELL_FORMED 14u
 #define MO_WINDOW_OUTSIDE_LIMITS 15u   /* windows: k is not 1 to 100 */
 
 /*
- * Every call but mo_read_table answers a code: 0 for a success, else a refusal's number and 256 times its place. The place is 0 but for
- * MO_TASK_OUTSIDE_LIMITS. Each number lent to the call is written: with what the call gives, and with 0 in a refusal
- * (MO_LISTS_TOO_SHORT of mo_make_table gives its numbers).
+ * Every call but mo_read_table and mo_chain_of_schedule answers a code: 0 for a success, else a refusal's number and 256 times its place.
+ * The place is
+ *   in every refusal of mo_read_file a byte offset, from 0;
+ *   else, for MO_TASK_OUTSIDE_LIMITS, the task's place in the chain, of mo_write_file its position in the schedule, from 1;
+ *   for MO_TASK_UNKNOWN of mo_write_file the place in the chain, from 1;
+ *   else 0.
+ * Each number lent to the call is written: with what the call gives, and with 0 in a refusal (MO_LISTS_TOO_SHORT of mo_make_table gives
+ * its numbers).
  */
 #define MO_NUMBER(code) ((code) % 256u)
 #define MO_PLACE(code) ((code) / 256u)
@@ -175,6 +187,77 @@ uint64_t mo_make_table(const uint64_t *tasks, size_t tasks_length, size_t places
  */
 uint64_t mo_windows(const uint64_t *tasks, size_t tasks_length, size_t places, uint64_t b, uint64_t k,
                     uint64_t *misses, uint64_t *first);
+
+/* ---- Schedules and their files ----
+ *
+ * A schedule is the list number, T, D, F, number, T, D, F, .. of its tasks with their count, and the list of the task numbers at its
+ * chain's places with the number of places. It has 1 to 32 tasks and 1 to 12 places. Task numbers are 1 to 65,535 and rise strictly from
+ * task to task, gaps allowed. A task may fill several places, or none. Entries past a count are no part of a schedule: mo_read_file makes
+ * them 0, the other calls do not look at them.
+ *
+ * A file holds one schedule, in records of length (2 bytes, the whole record), kind (2 bytes) and body, little-endian:
+ *   kind 1, length 18               a task: its number (2 bytes), T, D, F (4 bytes each);
+ *   kind 2, length 4 + 2 * places   the chain: the task number at each place (2 bytes each);
+ *   kind 3, length 4                the end;
+ * first the tasks, then one chain, then the end, then nothing. The longest file has 608 bytes.
+ *
+ *     uint64_t tasks[128], chain[12], counts[2], flat[36];
+ *     if (mo_read_file(bytes, n, tasks, chain, counts) == 0) {
+ *         size_t places = mo_chain_of_schedule(tasks, 128, counts[0], chain, 12, counts[1], flat);
+ *         .. mo_make_table(flat, 36, places, ..) ..
+ *     }
+ */
+
+/*
+ * Reading a file: tasks becomes number, T, D, F of each task and chain the task numbers at the places, both with 0 past them, and counts
+ * the number of tasks and the number of places. The bytes are not written.
+ *
+ * The file is judged record by record, and refused at the first record with a fault. The place is that record's offset, but for a byte
+ * after the end, where it is that byte's. For one record, the first that applies:
+ *   MO_FILE_ENDS_EARLY       fewer than 4 bytes remain; so a file without an end is refused at its length;
+ *   MO_RECORD_LENGTH_WRONG   its length is below 4;
+ *   MO_FILE_ENDS_EARLY       its length runs past the file;
+ *   MO_RECORD_KIND_UNKNOWN   its kind is not 1, 2 or 3;
+ *   MO_RECORD_LENGTH_WRONG   its length is not one of its kind, as for a chain of 0 or 13 places;
+ *   MO_RECORD_OUT_OF_TURN    a task after the chain, a 33rd task, a chain before the tasks or a second one, an end before the chain;
+ *   MO_TASK_OUTSIDE_LIMITS   a task's number is 0 or not above the one before, or T is not 1 to 1,000,000, D not 1 to 4,000,000 or F
+ *                            above 1,000,000;
+ *   MO_TASK_UNKNOWN          the chain has a number that no task has;
+ *   MO_RECORD_OUT_OF_TURN    at the byte after the end, whatever follows it.
+ * A refusal leaves 0 in every entry of tasks, chain and counts.
+ */
+uint64_t mo_read_file(const uint8_t *bytes, size_t bytes_length,
+                      uint64_t tasks[128], uint64_t chain[12], uint64_t counts[2]);
+
+/*
+ * Writing a file: the first bytes of out become the schedule's file, and length the number of these bytes; the others keep their content.
+ * count is the number of tasks. Read again, the file gives the same schedule; a file that was read and is written again is the same bytes.
+ *
+ * Refuses, the first that applies:
+ *   MO_PLACES_OUTSIDE_LIMITS   count is not 1 to 32 or places not 1 to 12, or a list does not hold them: tasks_length is no multiple of 4
+ *                              or below 4 * count, or chain_length is below places; at place 0;
+ *   MO_TASK_OUTSIDE_LIMITS     a task's number is 0, above 65,535 or not above the one before, or T, D or F is outside its limits, as
+ *                              for mo_read_file; at the lowest such task's position, from 1;
+ *   MO_TASK_UNKNOWN            a number of the chain, which may be any, is that of no counted task; at the lowest such place, from 1;
+ *   MO_LISTS_TOO_SHORT         out_length is below the file's length, 18 * count + 8 + 2 * places; at place 0.
+ * A refusal leaves every byte of out as it was, and 0 in length.
+ */
+uint64_t mo_write_file(const uint64_t *tasks, size_t tasks_length, size_t count,
+                       const uint64_t *chain, size_t chain_length, size_t places,
+                       uint8_t *out, size_t out_length, uint64_t *length);
+
+/*
+ * The chain of a schedule, as the calls on chains take it: flat becomes T, D, F of the task at each place, with 0 past them. The answer is
+ * no code but the number of places.
+ *
+ * The call refuses nothing. Where it finds no chain, what it gives is refused by every call on chains that takes flat, 36 and the answer:
+ *   a number that no counted task has gives a task of zeros, and so does every number where the list does not hold the counted tasks;
+ *   where the list does not hold the counted places, flat is zeros and the answer 0;
+ *   more than 12 places are answered as they are, with the tasks at the first twelve.
+ * Of several tasks with one number the first is taken, and of more than 32 tasks the first 32 are looked at.
+ */
+uint64_t mo_chain_of_schedule(const uint64_t *tasks, size_t tasks_length, size_t count,
+                              const uint64_t *chain, size_t chain_length, size_t places, uint64_t flat[36]);
 
 #ifdef __cplusplus
 }

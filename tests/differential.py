@@ -2,9 +2,11 @@
 
     python3 tests/differential.py [--count FACTOR] [--seed SEED]
 
-Each group prints its number of comparisons; the last line is 'N passed, M failed', in groups. A disagreement is printed with its input.
+Each group prints its number of comparisons, and on files how often each answer was met; the last line is 'N passed, M failed', in groups. A
+disagreement is printed with its input.
 """
 import argparse
+import collections
 import math
 import os
 import random
@@ -31,11 +33,24 @@ class Comparison:
     def __init__(self):
         self.made = 0
         self.wrong = []
+        self.met = collections.Counter()
+        self.lately = set()
 
     def same(self, ours, theirs, *about):
         self.made += 1
         if ours != theirs:
             self.wrong.append((about, ours, theirs))
+
+    def meet(self, answer):
+        """Counts an answer of the reference, as "ok" or by the refusal's number."""
+        name = "ok" if answer[0] == "ok" else answer[1]
+        self.met[name] += 1
+        self.lately.add(name)
+
+    def must_meet(self, *answers):
+        """The inputs since the last such line led to these answers; inputs that no longer do show nothing of them."""
+        self.same([a for a in answers if a not in self.lately], [], "answers that were not met")
+        self.lately = set()
 
 
 def padded(answer):
@@ -227,6 +242,221 @@ def damaged_tables(ours, r, factor, compare):
             compare.same(ours.exceedance(lent, b), reference.exceedance(*table, b), "exceedance", table, b)
 
 
+# ---- Schedules and their files
+
+def compare_reading(ours, data, compare, past=b""):
+    """One file: its schedule, or its refusal and the place. An accepted file is written again, as the same bytes, and its chain is had."""
+    mine, theirs = ours.read_file(data, past), reference.read_file(data)
+    compare.meet(theirs)
+    compare.same(mine, theirs, "reading", data)
+    if mine[0] != "ok":
+        return
+    _, tasks, chain = mine
+    numbers = inputs.flat(tasks)
+    # Just as many lent bytes, or more, which keep their content.
+    rest = b"rest" if len(chain) % 2 else b""
+    written = ours.write_file(numbers, len(tasks), chain, len(chain), bytes(len(data)) + rest)
+    compare.same(written, (("ok", len(data)), data + rest), "reading and writing", data)
+    compare.same(ours.chain_of_schedule(numbers, len(tasks), chain, len(chain)), reference.chain_of_schedule(tasks, chain), "chain", data)
+
+
+@group
+def files(ours, r, factor, compare):
+    """schedule files: every number of tasks and of places"""
+    for count in range(1, inputs.MOST_TASKS + 1):
+        for places in range(1, inputs.MOST_PLACES + 1):
+            for _ in range(max(1, int(10 * factor))):
+                tasks, chain = inputs.schedule(r, count, places)
+                data = inputs.joined(inputs.records(tasks, chain))
+                compare.same(ours.read_file(data, r.choice([b"", data])), ("ok", tasks, chain), "reading", data)
+                compare_reading(ours, data, compare)
+    compare.same(sum(compare.met.values()), compare.met["ok"], "files that are accepted")
+
+
+@group
+def changed_bytes(ours, r, factor, compare):
+    """schedule files: every other value of every byte"""
+    a = ([(1, 4, 4, 0), (2, 6, 6, 0)], [1, 2])
+    for tasks, chain in (inputs.schedule(r, 1, 1), a, inputs.schedule(r, 3, 4)):
+        data = inputs.joined(inputs.records(tasks, chain))
+        for i, byte in enumerate(data):
+            for other in range(256):
+                if other != byte:
+                    compare_reading(ours, data[:i] + bytes([other]) + data[i + 1:], compare)
+    compare.must_meet("ok", 1, 2, 3, 4, 5, 6)
+
+
+@group
+def cut_files(ours, r, factor, compare):
+    """schedule files: cut at every length"""
+    for i in range(max(1, int(12 * factor))):
+        tasks, chain = inputs.schedule(r, 32, 12) if i == 0 else inputs.any_schedule(r)
+        data = inputs.joined(inputs.records(tasks, chain))
+        for n in range(len(data) + 1):
+            # The rest lies in memory past the lent bytes: a call that looks there accepts the file.
+            compare_reading(ours, data[:n], compare, data[n:])
+    compare.must_meet("ok", 1)
+
+
+@group
+def damaged_records(ours, r, factor, compare):
+    """schedule files: records doubled, dropped, swapped, inserted, with other lengths and kinds; bytes after the end"""
+    for damaged, answers in inputs.RECORD_DAMAGES.items():
+        for count, places in ((1, 1), (2, 2), (3, 5), (31, 12), (32, 1)):
+            if damaged in (inputs.wrong_lengths, inputs.other_kinds, inputs.inserted) and count > 3:
+                # As many files for each record, so of a long file a beginning and an end of few records.
+                count = 4
+            tasks, chain = inputs.schedule(r, count, places)
+            for data in damaged(r, inputs.records(tasks, chain)):
+                compare_reading(ours, data, compare)
+        compare.must_meet(*answers)
+
+
+@group
+def faulty_records(ours, r, factor, compare):
+    """schedule files: values at and past their limits, unknown tasks, too many tasks, several faults in one record"""
+    for count in (1, 2, 3, 8, 32):
+        tasks, chain = inputs.schedule(r, count, r.randint(1, 12))
+        for data in inputs.edge_files(r, tasks, chain):
+            compare_reading(ours, data, compare)
+    compare.must_meet("ok", 5)
+    for places in range(1, inputs.MOST_PLACES + 1):
+        for _ in range(max(1, int(10 * factor))):
+            for data in inputs.unknown_files(r, *inputs.schedule(r, r.choice([1, 2, 5, 32]), places)):
+                compare_reading(ours, data, compare)
+    compare.must_meet(2, 6)
+    for count in (33, 33, 33, 34, 40, 64, 200):
+        for data in inputs.many_tasks(r, count):
+            compare_reading(ours, data, compare)
+    compare.must_meet(1, 2, 3, 4, 5)
+    for data in inputs.faults_of_order(r):
+        compare_reading(ours, data, compare)
+    compare.must_meet("ok", 1, 2, 3, 4, 5, 6)
+
+
+@group
+def random_files(ours, r, factor, compare):
+    """schedule files: random bytes and random records, up to 5,000 bytes"""
+    for _ in range(int(6000 * factor)):
+        compare_reading(ours, inputs.random_bytes(r), compare)
+    compare.must_meet(1, 2, 3)
+    for _ in range(int(6000 * factor)):
+        compare_reading(ours, inputs.random_records(r), compare)
+    compare.must_meet("ok", 1, 3, 4, 5, 6)
+
+
+def file_length(count, places):
+    return 18 * count + 8 + 2 * places
+
+
+def lent_sizes(r, length):
+    """Numbers of lent bytes for a file of this length: as many, more, one too few, none, fewer."""
+    return [length, length + 1, length + r.randint(2, 600), length - 1, 0, r.randint(0, length - 1)]
+
+
+def compare_writing(ours, r, tasks, count, chain, places, size, compare):
+    """One writing into so many lent bytes. What is written is read again, as the same schedule."""
+    out = r.randbytes(size)
+    mine = ours.write_file(inputs.flat(tasks), count, chain, places, out)
+    theirs = reference.write_file(count, tasks, places, chain, out)
+    compare.meet(theirs[0])
+    compare.same(mine, theirs, "writing", tasks, count, chain, places, size)
+    if mine[0][0] == "ok":
+        compare.same(ours.read_file(mine[1][:mine[0][1]]), ("ok", tasks[:count], chain[:places]), "writing and reading", tasks, count, chain, places)
+
+
+@group
+def writing(ours, r, factor, compare):
+    """writing schedule files: every number of tasks and of places, rubbish past them, lent bytes of every size"""
+    for count in range(1, inputs.MOST_TASKS + 1):
+        for places in range(1, inputs.MOST_PLACES + 1):
+            tasks, chain = inputs.schedule(r, count, places)
+            for size in lent_sizes(r, file_length(count, places)):
+                compare_writing(ours, r, tasks + inputs.past_tasks(r, tasks), count, chain + inputs.past_places(r, tasks), places, size, compare)
+    compare.must_meet("ok", 11)
+
+
+@group
+def writing_refused(ours, r, factor, compare):
+    """writing schedule files refused: counts, tasks, chains, several faults"""
+    many = [2**16 + 1, 2**32 + 1, 2**63 + 1, 2**64 - 1]
+    for i in range(max(1, int(40 * factor))):
+        tasks, chain = inputs.schedule(r, 32, 12) if i < 3 else inputs.schedule(r, r.randint(1, 4), r.randint(1, 12))
+        count, places = len(tasks), len(chain)
+        length = file_length(count, places)
+        all_tasks, all_places = tasks + inputs.past_tasks(r, tasks), chain + inputs.past_places(r, tasks)
+        for faulty in inputs.faulty_tasks(tasks):
+            compare_writing(ours, r, faulty + all_tasks[count:], count, all_places, places, r.choice(lent_sizes(r, length)), compare)
+        compare.must_meet(5)
+        for faulty in inputs.faulty_chains(r, tasks, chain, {task[0] for task in all_tasks[count:]}):
+            compare_writing(ours, r, all_tasks, count, faulty + all_places[places:], places, r.choice(lent_sizes(r, length)), compare)
+        compare.must_meet(6)
+        # Lists that hold as many as the counts say, where a list can.
+        long_tasks, long_places = (tasks * 40)[:40], (chain * 40)[:40]
+        for other in [0, 33, 34, 40, *many]:
+            compare_writing(ours, r, long_tasks, other, all_places, places, r.choice([length, 2000]), compare)
+        compare.must_meet(8)
+        for other in [0, 13, 14, 40, *many]:
+            compare_writing(ours, r, all_tasks, count, long_places, other, r.choice([length, 2000]), compare)
+        compare.must_meet(8)
+    for _ in range(int(6000 * factor)):
+        tasks, count, chain, places = inputs.several_faults(r)
+        size = r.choice(lent_sizes(r, file_length(len(tasks), len(chain))))
+        compare_writing(ours, r, tasks, count, chain, places, size, compare)
+    compare.must_meet("ok", 8, 5, 6, 11)
+
+
+@group
+def lists_of_schedules(ours, r, factor, compare):
+    """lists that do not hold the counted tasks or places"""
+    eight = ("refused", 8, 0)
+    for _ in range(int(1500 * factor)):
+        tasks, chain = inputs.any_schedule(r)
+        count, places = len(tasks), len(chain)
+        numbers, out = inputs.flat(tasks), r.randbytes(r.choice([0, 700]))
+        short = r.randint(1, len(numbers))
+        for lent, held in (
+            (numbers[:-short], chain),
+            (numbers[:-4], chain),
+            (numbers + [r.randint(1, 9) for _ in range(r.choice([1, 2, 3, 5]))], chain),
+            (numbers, chain[:-1]),
+            (numbers, chain[:r.randrange(places)]),
+            ([], chain),
+            (numbers, []),
+            ([], []),
+        ):
+            compare.same(ours.write_file(lent, count, held, places, out), (eight, out), "lists", lent, count, held, places)
+            given = ours.chain_of_schedule(lent, count, held, places)
+            # Without the places there is no place; without the tasks each place has zeros.
+            compare.same(given, [] if len(held) < places else [(0, 0, 0)] * places, "chain of lists", lent, count, held, places)
+
+
+def chain_of_any(tasks, count, chain, places):
+    """The chain of what may be no schedule, as the header tells it. The reference tells it of accepted schedules only."""
+    first = {}
+    for number, *values in tasks[:min(count, inputs.MOST_TASKS)]:
+        first.setdefault(number, tuple(values))
+    found = [first.get(number, (0, 0, 0)) for number in chain[:min(places, inputs.MOST_PLACES)]]
+    return found if places <= inputs.MOST_PLACES else ("left", places, found)
+
+
+@group
+def chains_of_schedules(ours, r, factor, compare):
+    """chains of schedules, also of faulty ones, and their checks"""
+    for _ in range(int(5000 * factor)):
+        tasks, chain = inputs.any_schedule(r)
+        lent, held = tasks + inputs.past_tasks(r, tasks), chain + inputs.past_places(r, tasks)
+        count, places = len(tasks), len(chain)
+        given, theirs = ours.chain_of_schedule(inputs.flat(lent), count, held, places), reference.chain_of_schedule(tasks, chain)
+        compare.same(given, theirs, "chain", tasks, chain)
+        compare.same(ours.check(inputs.flat(given), len(given)), reference.check_chain(theirs), "check", tasks, chain)
+        # Any numbers in any field, tasks with one number, and counts up to what the lists hold.
+        tasks, _, chain, _ = inputs.several_faults(r)
+        tasks, chain = tasks + inputs.past_tasks(r, tasks) + tasks[:1], chain + inputs.past_places(r, tasks)
+        count, places = r.randint(0, len(tasks)), r.randint(0, len(chain))
+        compare.same(ours.chain_of_schedule(inputs.flat(tasks), count, chain, places), chain_of_any(tasks, count, chain, places), "chain", tasks, count, chain, places)
+
+
 def main():
     parser = argparse.ArgumentParser()
     parser.add_argument("--count", type=float, default=1.0, help="how much longer than usual")
@@ -240,6 +470,8 @@ def main():
         run(ours, random.Random(f"{chosen.seed} {run.__name__}"), chosen.count, compare)
         wrong = len(compare.wrong)
         print(f"{run.__doc__.strip()}: {compare.made} comparisons, {wrong} disagree ({time.time() - began:.1f} s)")
+        if compare.met:
+            print("  the reference's answers: " + ", ".join(f"{answer} {times}" for answer, times in sorted(compare.met.items(), key=str)))
         for about, mine, other in compare.wrong[:5]:
             print(f"  {about}: the program says {mine}, the reference {other}")
         # A group that compares nothing shows nothing.

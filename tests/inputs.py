@@ -1,5 +1,7 @@
 """Random, boundary and damaged inputs. Every draw comes from the generator that is passed in."""
+import itertools
 import math
+import struct
 
 LARGEST = 2**64 - 1
 UPPER = 10**12
@@ -285,3 +287,293 @@ def wide_window_chain(r):
 def lent_lists(r, n, m):
     """Two lent lists of these lengths, with rubbish in them."""
     return [r.randint(0, LARGEST) for _ in range(n)], [r.randint(0, LARGEST) for _ in range(m)]
+
+
+# Schedules: tasks (number, T, D, F) and a chain of task numbers. Files: records of length, kind and body, little-endian.
+
+TASK, CHAIN, END = 1, 2, 3
+# The greatest task number is also the most that a length or a kind can be.
+MOST_TASKS, MOST_PLACES, MOST_NUMBER = 32, 12, 65535
+# The least and the greatest of each value of a task, by its position among number, T, D, F.
+LIMITS = {0: (1, MOST_NUMBER), 1: (1, 1000000), 2: (1, 4000000), 3: (0, 1000000)}
+
+
+def rising(r, count):
+    """Strictly rising task numbers: without gaps from 1 or up to 65,535, with small gaps, or any."""
+    draw = r.random()
+    if draw < 0.2:
+        return list(range(1, count + 1))
+    if draw < 0.3:
+        return list(range(MOST_NUMBER + 1 - count, MOST_NUMBER + 1))
+    if draw < 0.6:
+        return list(itertools.accumulate(r.randint(1, 3) for _ in range(count)))
+    return sorted(r.sample(range(1, MOST_NUMBER + 1), count))
+
+
+def schedule(r, count, places):
+    """A schedule of so many tasks and places."""
+    kind = r.choice([small_task, wide_task, edge_task])
+    tasks = [(number, *kind(r)) for number in rising(r, count)]
+    return tasks, [r.choice(tasks)[0] for _ in range(places)]
+
+
+def any_schedule(r):
+    return schedule(r, r.choice([1, 1, 2, 3, 4, r.randint(1, 32), 31, 32]), r.choice([1, 2, 3, r.randint(1, 12), 12]))
+
+
+def record(kind, body, length=None):
+    """A record with its own length, or with the one that is given."""
+    return struct.pack("<HH", len(body) + 4 if length is None else length, kind) + body
+
+
+def task_record(number, t, d, f):
+    return record(TASK, struct.pack("<HIII", number, t, d, f))
+
+
+def chain_record(numbers):
+    return record(CHAIN, struct.pack(f"<{len(numbers)}H", *numbers))
+
+
+END_RECORD = record(END, b"")
+
+
+def records(tasks, chain):
+    return [*[task_record(*task) for task in tasks], chain_record(chain), END_RECORD]
+
+
+def joined(parts):
+    return b"".join(parts)
+
+
+# Ways in which the records of a file are damaged: from a file's records to many files.
+
+def doubled(r, parts):
+    for i in range(len(parts)):
+        yield joined(parts[:i + 1] + parts[i:])
+
+
+def dropped(r, parts):
+    for i in range(len(parts)):
+        yield joined(parts[:i] + parts[i + 1:])
+
+
+def swapped(r, parts):
+    for i, j in itertools.combinations(range(len(parts)), 2):
+        other = list(parts)
+        other[i], other[j] = parts[j], parts[i]
+        yield joined(other)
+
+
+def inserted(r, parts):
+    """Before each record and last: each record of the file, a task that rises on, one that does not, other chains, other kinds."""
+    last = max(struct.unpack_from("<H", part, 4)[0] for part in parts[:-2])
+    rising_on = [task_record(number, 1, 1, 0) for number in {1, last, min(last + 1, MOST_NUMBER), MOST_NUMBER}]
+    others = [chain_record([last]), chain_record([0]), chain_record([]), record(0, b""), record(4, b""), record(END, b"x")]
+    others.append(record(r.randint(4, MOST_NUMBER), r.randbytes(r.randint(0, 20))))
+    for i in range(len(parts) + 1):
+        for extra in [*parts, *rising_on, *others]:
+            yield joined([*parts[:i], extra, *parts[i:]])
+
+
+def wrong_lengths(r, parts):
+    """Each record with another length: 0 to 40, as far as the file goes, further by one, the most. Alone, and with the body cut or filled to it."""
+    for i, part in enumerate(parts):
+        before, after = joined(parts[:i]), joined(parts[i + 1:])
+        remaining = len(part) + len(after)
+        for length in {*range(41), remaining - 1, remaining, remaining + 1, remaining + 256, 256 + len(part), MOST_NUMBER}:
+            head = struct.pack("<H", length)
+            yield before + head + part[2:] + after
+            if 4 <= length:
+                yield before + head + (part[2:] + r.randbytes(length))[:length - 2] + after
+
+
+def other_kinds(r, parts):
+    """A record of every kind and every length up to 40, before each record and last: with the rest after it, and cut by a byte as the last."""
+    for i in range(len(parts) + 1):
+        before, after = joined(parts[:i]), joined(parts[i:])
+        for kind in (0, TASK, CHAIN, END, 4, 256 + TASK, 256 * CHAIN, MOST_NUMBER):
+            for length in range(41):
+                extra = record(kind, r.randbytes(max(0, length - 4)), length)
+                yield before + extra + after
+                yield before + extra[:-1]
+
+
+def trailing(r, parts):
+    """One to five bytes after the end, and many: zeros, the bytes of records, any."""
+    whole = joined(parts)
+    for more in range(1, 6):
+        for extra in (bytes(5), END_RECORD + b"x", parts[0], parts[-2], b"\xff" * 5, r.randbytes(5)):
+            yield whole + extra[:more]
+    yield whole + whole
+    yield whole + r.randbytes(r.randint(6, 4000))
+
+
+# With the answers that each must lead to.
+RECORD_DAMAGES = {
+    doubled: (4, 5),
+    dropped: (1, 4, 6),
+    swapped: (4, 5),
+    inserted: ("ok", 2, 3, 4, 5, 6),
+    wrong_lengths: (1, 2),
+    other_kinds: (1, 2, 3, 4, 5, 6),
+    trailing: (4,),
+}
+
+
+# Values at and past their limits.
+
+def edge_values(field):
+    """Values of a task at and just past the limits of that field, and the ends of the bytes that hold it."""
+    low, high = LIMITS[field]
+    most = MOST_NUMBER if field == 0 else 2**32 - 1
+    return [v for v in {low - 1, low, low + 1, high - 1, high, high + 1, 0, 256, most} if 0 <= v <= most]
+
+
+def with_value(tasks, i, field, value):
+    """The tasks with one value of one task changed."""
+    task = list(tasks[i])
+    task[field] = value
+    return [*tasks[:i], tuple(task), *tasks[i + 1:]]
+
+
+def edge_files(r, tasks, chain):
+    """Each value of each task at and past its limits; each number equal to the one before and after, below, above."""
+    for i in range(len(tasks)):
+        for field in LIMITS:
+            for value in edge_values(field):
+                yield joined(records(with_value(tasks, i, field, value), chain))
+        for number in {tasks[max(0, i - 1)][0], tasks[i][0] - 1, tasks[0][0], tasks[-1][0], tasks[min(i + 1, len(tasks) - 1)][0]}:
+            yield joined(records(with_value(tasks, i, 0, number), chain))
+
+
+def unknown(r, tasks):
+    """A number that none of the tasks has."""
+    numbers = {task[0] for task in tasks}
+    near = [0, MOST_NUMBER, tasks[0][0] - 1, tasks[-1][0] + 1, r.choice(tasks)[0] ^ 256, r.choice(tasks)[0] ^ 1, r.randint(1, MOST_NUMBER)]
+    return r.choice([n for n in near if n <= MOST_NUMBER and n not in numbers] or [0])
+
+
+def unknown_files(r, tasks, chain):
+    """An unknown task at each place, at two places and at all; chains of 0 and 13 places."""
+    for i in range(len(chain)):
+        strange = [*chain[:i], unknown(r, tasks), *chain[i + 1:]]
+        yield joined(records(tasks, strange))
+        strange[r.randrange(len(chain))] = unknown(r, tasks)
+        yield joined(records(tasks, strange))
+    for numbers in ([unknown(r, tasks)] * len(chain), [], (chain * 13)[:13], (chain * 13)[:12] + [unknown(r, tasks)], (chain * 14)[:14]):
+        yield joined(records(tasks, numbers))
+
+
+def many_tasks(r, count):
+    """A file of more than 32 tasks: the 33rd is right but for that, or has another fault too, or the file ends there."""
+    tasks, chain = schedule(r, count, r.randint(1, 12))
+    parts = records(tasks, chain)
+    yield joined(parts)
+    for i, fault in ((32, (0, 1, 1, 0)), (32, (tasks[0][0], 1, 1, 0)), (32, (MOST_NUMBER, 0, 1, 0)), (31, (0, 1, 1, 0))):
+        yield joined([*parts[:i], task_record(*fault), *parts[i + 1:]])
+    yield joined([*parts[:32], parts[32][:17]])
+    yield joined([*parts[:32], record(TASK, parts[32][4:], 19), *parts[33:]])
+    yield joined([*parts[:32], record(4, parts[32][4:]), *parts[33:]])
+    yield joined(parts[:33])
+
+
+def faults_of_order(r):
+    """Every record that has several faults at once, after every kind of beginning, with the rest of the file after it or not: only the order of
+    the tests decides which fault is told."""
+    tasks, chain = schedule(r, 32, 3)
+    known, strange = tasks[0][0], unknown(r, tasks)
+    one, two, all_tasks = records(tasks[:1], [known]), records(tasks[:2], [known]), records(tasks, chain)
+    # Nothing, one task, two, all; then with the chain, and a whole file.
+    beginnings = [[], one[:1], two[:2], all_tasks[:32], one[:2], all_tasks[:33], two]
+    faulty = [(0, 1, 1, 0), (MOST_NUMBER, 0, 1, 0), (MOST_NUMBER, 1, 0, 0), (MOST_NUMBER, 1, 1, 1000001), (0, 0, 0, 2**32 - 1)]
+    bodies = [task_record(*task)[4:] for task in [tasks[2], tasks[0], *faulty]]
+    bodies += [chain_record(numbers)[4:] for numbers in ([known], [strange], [known, strange], [strange] * 12, [strange] * 13, [])]
+    for beginning, kind, body in itertools.product(beginnings, (0, TASK, CHAIN, END, 4), bodies):
+        for length in {0, 3, 4, 5, 6, 18, len(body) + 3, len(body) + 4, len(body) + 5, MOST_NUMBER}:
+            start = joined(beginning) + record(kind, body, length)
+            yield start
+            yield start + joined(records(tasks[2:3], [tasks[2][0]]))
+
+
+# Bytes that were never a file.
+
+def random_bytes(r):
+    """Any bytes; or bytes that are often those of a head."""
+    n = r.choice([r.randint(0, 60), r.randint(0, 60), r.randint(0, 700), r.randint(0, 5000), 5000])
+    if r.random() < 0.3:
+        return r.randbytes(n)
+    return bytes(r.choices([0, 1, 2, 3, 4, 6, 18, 255], [8, 3, 2, 2, 2, 2, 3, 1], k=n))
+
+
+def random_records(r):
+    """A row of records, mostly in turn and mostly right, up to 5,000 bytes."""
+    parts, number, most = [], 0, r.choice([60, 200, 700, 5000])
+    while sum(map(len, parts)) < most:
+        draw = r.random()
+        if draw < 0.75:
+            number = min(MOST_NUMBER, number + r.choice([1, 1, 2, 1000] if r.random() < 0.97 else [0]))
+            parts.append(task_record(number, *(edge_task(r) if r.random() < 0.98 else (0, 1, 1))))
+        elif draw < 0.9:
+            parts.append(chain_record([r.randint(1, number + 1) if r.random() < 0.05 else number for _ in range(r.randint(1, 12))]))
+            if r.random() < 0.7:
+                parts.append(END_RECORD)
+                if r.random() < 0.8:
+                    break
+        elif draw < 0.93:
+            parts.append(END_RECORD)
+        else:
+            parts.append(record(r.choice([0, 4, r.randint(0, MOST_NUMBER)]), r.randbytes(r.choice([0, 1, 14, r.randint(0, 4000)]))))
+    return joined(parts)[:5000]
+
+
+# Schedules to be written: any numbers of 64 bits.
+
+def past_tasks(r, tasks):
+    """Whole tasks that stand past the count: rubbish, and such as would follow."""
+    return [r.choice([tuple(any_number(r) for _ in range(4)), (min(tasks[-1][0] + 1 + i, MOST_NUMBER), 1, 1, 0)]) for i in range(r.choice([0, 1, 2, 31, 40]))]
+
+
+def past_places(r, tasks):
+    return [r.choice([any_number(r), tasks[0][0]]) for _ in range(r.choice([0, 1, 2, 11, 20]))]
+
+
+def faulty_values(field, before):
+    """Values of a task that are refused in that field, `before` being the number of the task before; also such as would pass with fewer bits."""
+    low, high = LIMITS[field]
+    faulty = [high + 1, high + 2, 2**16 + high, 2**32, 2**32 + low, 2**32 + high, 2**63 + high, 2**64 - 1]
+    if field == 0:
+        # The next number with further bits, and every way of not being above the number before.
+        return within([*faulty, 2**16 + before + 1, 2**32 + before + 1, 0, before, before - 1, min(1, before)])
+    return within([*faulty, low - 1])
+
+
+def faulty_tasks(tasks):
+    """Each field of each task at each refused value."""
+    for i in range(len(tasks)):
+        for field in LIMITS:
+            for value in faulty_values(field, tasks[i - 1][0] if i else 0):
+                yield with_value(tasks, i, field, value)
+
+
+def faulty_chains(r, tasks, chain, past):
+    """Each place with each kind of number that no counted task has; `past` are numbers of tasks that stand past the count."""
+    numbers = {task[0] for task in tasks}
+    for i in range(len(chain)):
+        for number in {0, chain[i] + 2**16, chain[i] + 2**32, chain[i] + 2**63, MOST_NUMBER + 1, LARGEST, unknown(r, tasks), *past} - numbers:
+            yield [*chain[:i], number, *chain[i + 1:]]
+
+
+def several_faults(r):
+    """A schedule with several faults, and its counts."""
+    tasks, chain = any_schedule(r)
+    count, places, known = len(tasks), len(chain), chain[0]
+    for _ in range(r.choice([0, 1, 2, 3])):
+        i, field = r.randrange(len(tasks)), r.choice(list(LIMITS))
+        tasks = with_value(tasks, i, field, r.choice(faulty_values(field, tasks[i - 1][0] if i else 0)))
+    for _ in range(r.choice([0, 1, 2])):
+        chain[r.randrange(places)] = r.choice([0, MOST_NUMBER, any_number(r), 2**32 + known])
+    if r.random() < 0.2:
+        count = r.choice([0, 33, LARGEST, 2**32 + count])
+    if r.random() < 0.2:
+        places = r.choice([0, 13, LARGEST, 2**32 + places])
+    return tasks, count, chain, places

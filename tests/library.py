@@ -16,6 +16,8 @@ LARGEST = 2**64 - 1
 RUBBISH = 0xDEADBEEF
 # Reading a table answers a delay below this, or this and the refusal's number.
 REFUSED = 2**32
+# What lies in memory past lent bytes: a call must not write there.
+FENCE = bytes(range(0xA0, 0xB0))
 
 
 def build():
@@ -33,6 +35,16 @@ def words(numbers):
     return (U64 * max(1, len(numbers)))(*numbers), SIZE(len(numbers))
 
 
+def filled(count):
+    """An array of numbers for an answer, with rubbish in each."""
+    return (U64 * count)(*[RUBBISH] * count)
+
+
+def schedule(flat, count, chain, places):
+    """A lent schedule: the first arguments of every call on one."""
+    return (*words(flat), SIZE(count), *words(chain), SIZE(places))
+
+
 def refusal(code):
     """A refusal from its code: the number, and 256 times the place."""
     return ("refused", code % 256, code // 256)
@@ -46,7 +58,7 @@ def table(starts, latencies, g, h):
 class Library:
     def __init__(self, path):
         self.c = ctypes.CDLL(path)
-        for name in ("mo_check", "mo_warm_up", "mo_delay", "mo_age", "mo_make_table", "mo_read_table", "mo_greatest", "mo_low", "mo_mean", "mo_throughput", "mo_exceedance", "mo_windows"):
+        for name in ("mo_check", "mo_warm_up", "mo_delay", "mo_age", "mo_make_table", "mo_read_table", "mo_greatest", "mo_low", "mo_mean", "mo_throughput", "mo_exceedance", "mo_windows", "mo_read_file", "mo_write_file", "mo_chain_of_schedule"):
             getattr(self.c, name).restype = U64
 
     def numbers(self, call, count, *arguments):
@@ -120,3 +132,45 @@ class Library:
         if answer == ("ok", 0, 1):
             return ("ok", "endless")
         return answer[:2] if answer[0] == "ok" and answer[2] == 0 else answer
+
+    # The calls on schedules and their files. A task is (number, T, D, F); `flat` is the list of these numbers.
+
+    def read_file(self, data, past=b""):
+        """Reading a file. `past` lies in memory after the lent bytes, where a call that looks past them would find it. A refusal must leave 0 in
+        every entry, a success 0 in the entries past the counts, and either the lent bytes as they were."""
+        lent = ctypes.create_string_buffer(data + past + FENCE)
+        tasks, chain, counts = filled(128), filled(12), filled(2)
+        code = self.c.mo_read_file(lent, SIZE(len(data)), tasks, chain, counts)
+        tasks, chain, (count, places) = list(tasks), list(chain), counts
+        if lent.raw[:-1] != data + past + FENCE:
+            return ("changed", code, lent.raw)
+        if code != 0:
+            return ("left", code, tasks, chain, count, places) if count or places or any(tasks) or any(chain) else refusal(code)
+        if count > 32 or places > 12 or any(tasks[4 * count:]) or any(chain[places:]):
+            return ("left", code, tasks, chain, count, places)
+        return ("ok", [tuple(tasks[i:i + 4]) for i in range(0, 4 * count, 4)], chain[:places])
+
+    def write_file(self, flat, count, chain, places, out):
+        """Writing a file, and what the lent bytes hold after it. A refusal must leave them, and 0 for the length; no call may write past them or
+        to the schedule's lists."""
+        lent, length = ctypes.create_string_buffer(out + FENCE), U64(RUBBISH)
+        arguments = schedule(flat, count, chain, places)
+        code = self.c.mo_write_file(*arguments, lent, SIZE(len(out)), ctypes.byref(length))
+        after = lent.raw[:len(out)]
+        if lent.raw[len(out):-1] != FENCE or list(arguments[0])[:len(flat)] != flat or list(arguments[3])[:len(chain)] != chain:
+            answer = ("changed", code, lent.raw)
+        elif code == 0:
+            answer = ("ok", length.value)
+        else:
+            answer = refusal(code) if length.value == 0 and after == out else ("left", code, length.value)
+        return answer, after
+
+    def chain_of_schedule(self, flat, count, chain, places):
+        """The chain of a schedule as a list of (T, D, F). The numbers past its places must be 0; what has more than twelve is shown whole."""
+        numbers = filled(36)
+        given = self.c.mo_chain_of_schedule(*schedule(flat, count, chain, places), numbers)
+        numbers = list(numbers)
+        tasks = [tuple(numbers[i:i + 3]) for i in range(0, 36, 3)]
+        if given > 12 or any(numbers[3 * given:]):
+            return ("left", given, tasks)
+        return tasks[:given]

@@ -43,7 +43,7 @@ overlaid (x ∷ l) [] v h g = absurd (omega arith)
 overlaid (x ∷ l) (y ∷ s) [] h g = absurd (omega arith)
 overlaid (x ∷ l) (y ∷ s) (z ∷ v) h g = ap (λ (k : List Anchor). x ∷ k) (overlaid l s v (omega arith) (omega arith))
 
-overlay-length : (xs ys : List ℕ) → length (overlay xs ys) ≡ length ys
+pub overlay-length : (xs ys : List ℕ) → length (overlay xs ys) ≡ length ys
 overlay-length [] [] = refl
 overlay-length [] (y ∷ ys) = refl
 overlay-length (x ∷ xs) [] = refl

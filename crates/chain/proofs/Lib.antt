@@ -1,3 +1,4 @@
+pub mod Filling
 pub mod Front
 pub mod CheckLaws
 pub mod Steps

@@ -1,16 +1,19 @@
--- One step of each way, with the places as the loops count them and the tasks as the array has them.
+-- One step of each way, with the places as the loops count them.
 use Prim.Native.Nat.{ℕ, zero, suc, _+_, _-_, _≤_, _<_}
 use native.Mathlib.Omega.{arith}
 use mathlib.Core.Path.{_≡_, refl, sym, ap, _∙_}
 use mathlib.Core.List.{List}
+use lib.ListN.{length}
 use Rattle.task.specs.declared.Task.{Task}
 use Rattle.task.specs.declared.Job.{Job}
 use Rattle.task.specs.declared.Latest.{Latest}
 use Rattle.task.specs.declared.Latest.the-variants.{Of, Nothing}
 use Rattle.task.specs.Links.{forwardLink, backwardLink}
-use Rattle.chain.specs.declared.Chain.{Chain}
-use Rattle.chain.specs.Chains.{tasksOf, at, forwardBy, backwardBy, onLatest}
-use Rattle.chain.proofs.CheckLaws.{at-place}
+use Rattle.task.specs.Jobs.{readOf, writeOf}
+use Rattle.task.specs.LinkLaws.{backward-earlier}
+use Rattle.chain.specs.Chains.{at, forwardBy, backwardBy, onLatest}
+use Rattle.chain.specs.Checks.{Sound}
+use Rattle.chain.specs.Ranges.{forward-fits}
 
 pub forward-none : (l : List Task) (p j : ℕ) → j ≡ forwardBy l p (p - p) j
 unfolding forwardBy
@@ -20,29 +23,38 @@ pub backward-none : (l : List Task) (p m : ℕ) → Of (record { 0 = m }) ≡ ba
 unfolding backwardBy
 backward-none l p m = let a : p - p ≡ 0 = omega arith in rw a
 
-module _ (c : Chain) (p : ℕ) where
-  pub forward-step : (i j : ℕ) → p ≤ i → i + 1 < c .places
-      → forwardLink (at (c .tasks) i) (at (c .tasks) (i + 1)) (forwardBy (tasksOf c) p (i - p) j) ≡ forwardBy (tasksOf c) p (i + 1 - p) j
-  unfolding forwardBy
-  forward-step i j h g =
-      let a : i + 1 - p ≡ suc (i - p) = omega arith in
-      let b : p + suc (i - p) ≡ i + 1 = omega arith in
-      let d : p + (i - p) ≡ i = omega arith in
-      rw (a, b, d, at-place c i (omega arith), at-place c (i + 1) g)
+-- the task at a place is a value of the code
+module _ (l : List Task) (p : ℕ) where
+  -- k is the job at place i, a its task
+  module _ (i j k : ℕ) (a : Task) (h : p ≤ i) (here : a ≡ at l i) (way : k ≡ forwardBy l p (i - p) j) where
+    pub forward-small : Sound l → i < length l → writeOf (at l p) j ≤ 1500000000000 → writeOf a k ≤ 2000000000000
+    forward-small ok g top = omega (arith, ap (λ (x : Task). writeOf x k) here, ap (writeOf (at l i)) way, forward-fits l ok p i h g j)
 
-  module _ (i m : ℕ) (h : p < i) (g : i < c .places) where
-    backward-unfold : backwardBy (tasksOf c) p (i - p) m ≡ onLatest (backwardLink (at (c .tasks) (i - 1)) (at (c .tasks) i) m) (backwardBy (tasksOf c) p (i - 1 - p))
+    pub forward-step : (b : Task) → b ≡ at l (i + 1) → forwardLink a b k ≡ forwardBy l p (i + 1 - p) j
+    unfolding forwardBy
+    forward-step b next =
+        let n : i + 1 - p ≡ suc (i - p) = omega arith in
+        let c : p + suc (i - p) ≡ i + 1 = omega arith in
+        let d : p + (i - p) ≡ i = omega arith in
+        ap (λ (x : Task). forwardLink x b k) here ∙ ap (λ (x : Task). forwardLink (at l i) x k) next ∙ ap (forwardLink (at l i) (at l (i + 1))) way ∙ rw (n, c, d)
+
+  -- m is the job at place i, b its task and a that of the place before
+  module _ (i m : ℕ) (a b : Task) (h : p < i) (before : a ≡ at l (i - 1)) (here : b ≡ at l i) where
+    backward-unfold : backwardBy l p (i - p) m ≡ onLatest (backwardLink a b m) (backwardBy l p (i - 1 - p))
     unfolding backwardBy
     backward-unfold =
-        let a : i - p ≡ suc (i - 1 - p) = omega arith in
-        let b : p + suc (i - 1 - p) ≡ i = omega arith in
+        let n : i - p ≡ suc (i - 1 - p) = omega arith in
+        let c : p + suc (i - 1 - p) ≡ i = omega arith in
         let d : p + (i - 1 - p) ≡ i - 1 = omega arith in
-        rw (a, b, d, at-place c i g, at-place c (i - 1) (omega arith))
+        rw (n, c, d, before, here)
 
-    pub backward-step : (j : Job) → backwardLink (at (c .tasks) (i - 1)) (at (c .tasks) i) m ≡ Of j → backwardBy (tasksOf c) p (i - p) m ≡ backwardBy (tasksOf c) p (i - 1 - p) (j .0)
+    pub backward-step : (j : Job) → backwardLink a b m ≡ Of j → backwardBy l p (i - p) m ≡ backwardBy l p (i - 1 - p) (j .0)
     unfolding onLatest
     backward-step j e = backward-unfold ∙ rw e
 
-    pub backward-stop : backwardLink (at (c .tasks) (i - 1)) (at (c .tasks) i) m ≡ Nothing → backwardBy (tasksOf c) p (i - p) m ≡ Nothing
+    pub backward-stop : backwardLink a b m ≡ Nothing → backwardBy l p (i - p) m ≡ Nothing
     unfolding onLatest
     backward-stop e = backward-unfold ∙ rw e
+
+    pub backward-small : 1 ≤ a .period → readOf b m ≤ 1500000000000 → (j : Job) → backwardLink a b m ≡ Of j → readOf a (j .0) ≤ 1500000000000
+    backward-small pos top j e = omega (arith, backward-earlier a b pos m j e)

@@ -1,4 +1,5 @@
 pub mod Chains
+pub mod Flat
 pub mod Hyperperiod
 pub mod Checks
 pub mod Multiples

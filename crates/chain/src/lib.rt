@@ -6,9 +6,11 @@ use task::Latest;
 use task::Task;
 ghost use mathlib.Core.Path.{_≡_};
 ghost use Prim.Native.Nat.{_+_, _*_, _-_, _≤_, _<_};
+ghost use lib.ListN.{length};
 ghost use Rattle.task.specs.Jobs.{readOf, writeOf};
 ghost use Rattle.chain.specs.Chains.{tasksOf, at, lastPlace, forwardBy, backwardBy, jobOf};
-ghost use Rattle.chain.specs.Checks.{firstFault, hyperVerdict, verdictOf, Checked};
+ghost use Rattle.chain.specs.Checks.{firstFault, hyperVerdict, verdictOf, Sound, Checked};
+ghost use Rattle.chain.specs.Flat.{flatChain, tasksIn};
 
 // Document 01: one chain of 1 to 12 places; a task may fill several. Entries of `tasks` from `places` on are no part of the chain.
 pub struct Chain {
@@ -90,39 +92,72 @@ pub fn check(c: Chain) -> Verdict
     hyper_verdict(c)
 }
 
-// ---- the ways along a chain that passes 8 and 5
+// ---- the tasks as a flat list
+
+// The tasks of a chain as the flat list T, D, F, T, D, F, .. Its first 3 * places numbers are those of the places.
+pub fn flat(c: Chain) -> [u64; 36]
+    ensures { λ r. ⌜ r ≡ flatChain (c .tasks) ⌝ }
+{
+    let mut list = [0u64; 36];
+    let mut i: usize = 0;
+    while i < 12 {
+        let a = c.tasks[i];
+        list[3 * i] = a.period;
+        list[3 * i + 1] = a.duration;
+        list[3 * i + 2] = a.phase;
+        i += 1;
+    }
+    list
+}
+
+// The task at place i of a flat list.
+pub fn task_at(tasks: &[u64], i: usize) -> Task
+    requires { ⌜ (i < length (tasksIn (now tasks))) × (i < 12) ⌝ }
+    ensures { λ r. ⌜ r ≡ at (tasksIn (now (tasks .entry))) i ⌝ }
+{
+    let k = 3 * i;
+    Task {
+        period: tasks[k],
+        duration: tasks[k + 1],
+        phase: tasks[k + 2],
+    }
+}
+
+// ---- the ways along the tasks of a chain that passes 8 and 5, as a flat list
 
 // From job j at place p forward to place q.
-pub fn forward(c: Chain, p: usize, q: usize, j: Job) -> Job
-    requires { ⌜ (Checked c) × (p ≤ q) × (q < c .places) × (writeOf (at (tasksOf c) p) (j .0) ≤ 1500000000000) ⌝ }
-    ensures { λ r. ⌜ r .0 ≡ forwardBy (tasksOf c) p (q - p) (j .0) ⌝ }
+pub fn forward_on(tasks: &[u64], p: usize, q: usize, j: Job) -> Job
+    requires { ⌜ (Sound (tasksIn (now tasks))) × (p ≤ q) × (q < length (tasksIn (now tasks))) × (writeOf (at (tasksIn (now tasks)) p) (j .0) ≤ 1500000000000) ⌝ }
+    ensures { λ r. ⌜ r .0 ≡ forwardBy (tasksIn (now (tasks .entry))) p (q - p) (j .0) ⌝ }
 {
     let mut k = j;
     let mut i = p;
+    let mut a = task_at(tasks, p);
     while i < q {
-        let a = c.tasks[i];
         i += 1;
-        let b = c.tasks[i];
+        let b = task_at(tasks, i);
         k = a.forward_to(b, k);
+        a = b;
     }
     k
 }
 
 // From job m at place q backward to place p; there may be none.
-pub fn backward(c: Chain, p: usize, q: usize, m: Job) -> Latest
-    requires { ⌜ (Checked c) × (p ≤ q) × (q < c .places) × (readOf (at (tasksOf c) q) (m .0) ≤ 1500000000000) ⌝ }
-    ensures { λ r. ⌜ r ≡ backwardBy (tasksOf c) p (q - p) (m .0) ⌝ }
+pub fn backward_on(tasks: &[u64], p: usize, q: usize, m: Job) -> Latest
+    requires { ⌜ (Sound (tasksIn (now tasks))) × (p ≤ q) × (q < length (tasksIn (now tasks))) × (readOf (at (tasksIn (now tasks)) q) (m .0) ≤ 1500000000000) ⌝ }
+    ensures { λ r. ⌜ r ≡ backwardBy (tasksIn (now (tasks .entry))) p (q - p) (m .0) ⌝ }
 {
     let mut k = m;
     let mut i = q;
+    let mut b = task_at(tasks, q);
     while p < i {
-        let b = c.tasks[i];
         i -= 1;
-        let a = c.tasks[i];
+        let a = task_at(tasks, i);
         let found = b.backward_to(a, k);
         match found {
             Latest::Of(j) => {
                 k = j;
+                b = a;
             }
             Latest::Nothing => {
                 return Latest::Nothing;
@@ -130,6 +165,28 @@ pub fn backward(c: Chain, p: usize, q: usize, m: Job) -> Latest
         }
     }
     Latest::Of(k)
+}
+
+// ---- the same along a chain by value
+
+// From job j at place p forward to place q.
+pub fn forward(c: Chain, p: usize, q: usize, j: Job) -> Job
+    requires { ⌜ (Checked c) × (p ≤ q) × (q < c .places) × (writeOf (at (tasksOf c) p) (j .0) ≤ 1500000000000) ⌝ }
+    ensures { λ r. ⌜ r .0 ≡ forwardBy (tasksOf c) p (q - p) (j .0) ⌝ }
+{
+    let tasks = flat(c);
+    let n = 3 * c.places;
+    forward_on(&tasks[..n], p, q, j)
+}
+
+// From job m at place q backward to place p; there may be none.
+pub fn backward(c: Chain, p: usize, q: usize, m: Job) -> Latest
+    requires { ⌜ (Checked c) × (p ≤ q) × (q < c .places) × (readOf (at (tasksOf c) q) (m .0) ≤ 1500000000000) ⌝ }
+    ensures { λ r. ⌜ r ≡ backwardBy (tasksOf c) p (q - p) (m .0) ⌝ }
+{
+    let tasks = flat(c);
+    let n = 3 * c.places;
+    backward_on(&tasks[..n], p, q, m)
 }
 
 // The job found, and 0 where there is none.

@@ -7,4 +7,3 @@ pub mod Gathering
 pub mod LongestRun
 pub mod Exceeding
 pub mod EveryBound
-pub mod Survey

@@ -76,6 +76,10 @@ range-fits l ok p h g s =
     let w = ok .each p g in
     omega (arith, warm-range l ok p g, div-mul-le-self h (at l p .period), w .period-max, w .duration-max)
 
+-- what the loop leaves for a list of tasks that is another by name only
+pub filled-on : (t l : List Task) → t ≡ l → {p m n : ℕ} {x y x′ y′ : List ℕ} {r : Count} → Filled t p m n x y x′ y′ r → Filled l p m n x y x′ y′ r
+filled-on t l e f = rw e at f
+
 -- an answer tells its number, place and figures
 tells-so : (c : Chain) (p a : ℕ) (v : Verdict) (r : Made) → r ≡ madeAfter c p a v → told r ≡ toldAfter c p a v
 unfolding madeAfter toldAfter

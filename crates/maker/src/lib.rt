@@ -8,11 +8,12 @@ use task::Job;
 use task::Task;
 use task::Tick;
 ghost use mathlib.Core.Path.{_≡_};
-ghost use lib.ListN.{set};
+ghost use lib.ListN.{length, set};
 ghost use Prim.Native.Nat.{_+_, _≤_, _<_};
 ghost use Rattle.task.specs.Jobs.{writeOf};
-ghost use Rattle.chain.specs.Chains.{tasksOf, at};
-ghost use Rattle.chain.specs.Checks.{Checked};
+ghost use Rattle.chain.specs.Chains.{at};
+ghost use Rattle.chain.specs.Checks.{Sound};
+ghost use Rattle.chain.specs.Flat.{tasksIn};
 ghost use Rattle.timing.specs.WarmUp.{warmAt};
 ghost use Rattle.maker.specs.Turn.{lastEnd, Added, Filled};
 ghost use Rattle.maker.specs.Making.{afterChecks, Makes};
@@ -85,17 +86,24 @@ fn last_end(here: Partition, next: Partition, last: Tick) -> Tick
     here.end
 }
 
-// Walks the n partitions from a job on, and writes the anchors that fit. Each partition is walked once: the next of one turn is the partition of the following.
-fn fill(c: Chain, p: usize, from: Job, n: u64, starts: &mut [u64], latencies: &mut [u64]) -> Count
-    requires { ⌜ (Checked c) × (p < c .places) × (warmAt (tasksOf c) p ≤ from .0) × (n ≤ 60000000) × (writeOf (at (tasksOf c) p) (from .0 + n + 1) ≤ 1000000000000) ⌝ }
-    ensures { λ r. ⌜ Filled (tasksOf c) p (from .0) n (now (starts .entry)) (now (latencies .entry)) (now (starts .exit)) (now (latencies .exit)) r ⌝ }
+// Walks the n partitions from a job on, and writes the anchors that fit. `tasks` is the flat list of the chain's tasks, which is not copied. Each partition is walked once: the next of one turn is the partition of the following.
+fn fill(
+    tasks: &[u64],
+    p: usize,
+    from: Job,
+    n: u64,
+    starts: &mut [u64],
+    latencies: &mut [u64],
+) -> Count
+    requires { ⌜ (Sound (tasksIn (now tasks))) × (p < length (tasksIn (now tasks))) × (warmAt (tasksIn (now tasks)) p ≤ from .0) × (n ≤ 60000000) × (writeOf (at (tasksIn (now tasks)) p) (from .0 + n + 1) ≤ 1000000000000) ⌝ }
+    ensures { λ r. ⌜ Filled (tasksIn (now (tasks .entry))) p (from .0) n (now (starts .entry)) (now (latencies .entry)) (now (starts .exit)) (now (latencies .exit)) r ⌝ }
 {
     let mut walked: u64 = 0;
     let mut g: usize = 0;
     let mut last = Tick(0);
-    let mut here = partition::of_job(c, p, from);
+    let mut here = partition::of_job(tasks, p, from);
     while walked < n {
-        let next = partition::next(c, p, here);
+        let next = partition::next(tasks, p, here);
         g = add_anchor(here, next, last, g, starts, latencies);
         last = last_end(here, next, last);
         here = next;
@@ -154,7 +162,9 @@ pub fn make_table(c: Chain, p: usize, starts: &mut [u64], latencies: &mut [u64])
             let first = c.tasks[0];
             let tick = first.read(w);
             let t = c.tasks[q];
-            let f = fill(c, q, from, h / t.period, starts, latencies);
+            let tasks = chain::flat(c);
+            let n = 3 * c.places;
+            let f = fill(&tasks[..n], q, from, h / t.period, starts, latencies);
             let figures = Figures {
                 anchors: f.anchors,
                 tick,

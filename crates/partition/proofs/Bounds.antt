@@ -1,4 +1,4 @@
--- A partition of a checked chain, with the places as the code counts them; no number on its ways is large.
+-- A partition of a checked chain's tasks, with the places as the code counts them; no number on its ways is large.
 use Prim.Native.Nat.{ℕ, _+_, _-_, _*_, _≤_, _<_}
 use native.Mathlib.Omega.{arith}
 use mathlib.Core.Path.{_≡_, refl, sym, ap, _∙_}
@@ -9,13 +9,11 @@ use Rattle.task.specs.declared.Latest.{Latest}
 use Rattle.task.specs.declared.Latest.the-variants.{Of, Nothing}
 use Rattle.task.specs.Jobs.{readOf, writeOf, Within}
 use Rattle.task.specs.LinkLaws.{job-small, read-mono}
-use Rattle.chain.specs.declared.Chain.{Chain}
-use Rattle.chain.specs.Chains.{tasksOf, at, lastPlace, forwardBy, backwardBy, jobOf}
-use Rattle.chain.specs.Checks.{Sound, Checked}
+use Rattle.chain.specs.Chains.{at, lastPlace, forwardBy, backwardBy, jobOf}
+use Rattle.chain.specs.Checks.{Sound}
 use Rattle.chain.specs.Ranges.{forward-fits, forward-late, backward-fits}
 use Rattle.timing.specs.WarmUp.{warmAt}
 use Rattle.timing.specs.WarmLaws.{start-there}
-use Rattle.timing.proofs.Whole.{first-is, last-is}
 use Rattle.partition.specs.declared.Partition.{Partition}
 use Rattle.partition.specs.Partitions.{startOf, endOf, IsPartition}
 
@@ -62,29 +60,26 @@ module _ (l : List Task) (ok : Sound l) (p : ℕ) (h : p < length l) where
   pub job-fits : (m : ℕ) → m ≤ writeOf (at l p) m
   job-fits m = omega (arith, job-small (at l p) (here .period-pos) m)
 
-module _ (c : Chain) (k : Checked c) (p m : ℕ) where
-  pub start-is : (j : ℕ) → j ≡ jobOf (backwardBy (tasksOf c) 0 (p - 0) m) → readOf (at (c .tasks) 0) j ≡ startOf (tasksOf c) p m
-  unfolding startOf
-  start-is j e = let z : p - 0 ≡ p = omega arith in rw (first-is c k, e, z)
+-- the tasks and jobs at the ends are values of the code
+module _ (l : List Task) (ok : Sound l) (p m : ℕ) where
+  module _ (a : Task) (j : ℕ) (first : a ≡ at l 0) (way : j ≡ jobOf (backwardBy l 0 (p - 0) m)) where
+    pub start-is : readOf a j ≡ startOf l p m
+    unfolding startOf
+    start-is = let z : p - 0 ≡ p = omega arith in ap (λ (x : Task). readOf x j) first ∙ ap (readOf (at l 0)) way ∙ rw z
 
-  pub end-is : (j : ℕ) → j ≡ forwardBy (tasksOf c) p (c .places - 1 - p) (m + 1) → writeOf (at (c .tasks) (c .places - 1)) j ≡ endOf (tasksOf c) p m
-  unfolding endOf
-  end-is j e =
-      ap (λ (a : Task). writeOf a j) (last-is c k)
-      ∙ ap (writeOf (at (tasksOf c) (lastPlace (tasksOf c)))) (e ∙ ap (λ (n : ℕ). forwardBy (tasksOf c) p (n - 1 - p) (m + 1)) (sym (k .counted)))
+    pub start-small : p < length l → writeOf (at l p) (m + 1) ≤ 1000000000000 → readOf a j ≤ 2000000000000
+    start-small h top = omega (arith, start-is, start-near l ok p h m, read-mono (at l p) m (m + 1) (omega arith))
 
-  module _ (h : p < c .places) (top : writeOf (at (tasksOf c) p) (m + 1) ≤ 1000000000000) where
-    in-places : p < length (tasksOf c)
-    in-places = omega (arith, k .counted)
+  module _ (n : ℕ) (b : Task) (k : ℕ) (end : n ≡ lastPlace l) (last : b ≡ at l n) (way : k ≡ forwardBy l p (n - p) (m + 1)) where
+    pub end-is : writeOf b k ≡ endOf l p m
+    unfolding endOf
+    end-is = ap (λ (x : Task). writeOf x k) last ∙ ap (writeOf (at l n)) way ∙ ap (λ (x : ℕ). writeOf (at l x) (forwardBy l p (x - p) (m + 1))) end
 
-    pub start-small : (j : ℕ) → j ≡ jobOf (backwardBy (tasksOf c) 0 (p - 0) m) → readOf (at (c .tasks) 0) j ≤ 2000000000000
-    start-small j e = omega (arith, start-is j e, start-near (tasksOf c) (k .sound) p in-places m, read-mono (at (tasksOf c) p) m (m + 1) (omega arith))
+    pub end-small : p < length l → writeOf (at l p) (m + 1) ≤ 1000000000000 → writeOf b k ≤ 2000000000000
+    end-small h top = omega (arith, end-is, end-near l ok p h m)
 
-    pub end-small : (j : ℕ) → j ≡ forwardBy (tasksOf c) p (c .places - 1 - p) (m + 1) → writeOf (at (c .tasks) (c .places - 1)) j ≤ 2000000000000
-    end-small j e = omega (arith, end-is j e, end-near (tasksOf c) (k .sound) p in-places m)
-
-    pub job-top : m + 1 ≤ 1000000000000
-    job-top = omega (arith, job-fits (tasksOf c) (k .sound) p in-places (m + 1))
+  pub job-top : p < length l → writeOf (at l p) (m + 1) ≤ 1000000000000 → m + 1 ≤ 1000000000000
+  job-top h top = omega (arith, job-fits l ok p h (m + 1))
 
 -- a partition is that of its own job
 pub own : (l : List Task) (p m : ℕ) (x : Partition) → IsPartition l p m x → IsPartition l p (x .job .0) x

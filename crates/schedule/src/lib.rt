@@ -1,5 +1,5 @@
 // A schedule by value: its tasks with their numbers, the places of its chain, and their two counts.
-// `chain_of` takes any schedule. `follows` takes any task; what `find` and `numbers_of` require is proved by the crates that call them.
+// `chain_of` takes any schedule. `follows` takes any task, `at_most` any numbers; what `find` and `numbers_of` require is proved by the crates that call them.
 use chain::Chain;
 use task::Task;
 ghost use mathlib.Core.Path.{_≡_};
@@ -50,7 +50,7 @@ pub fn numbers_of(tasks: [NumberedTask; 32]) -> [u64; 32]
     numbers
 }
 
-fn at_most(n: usize, limit: usize) -> usize
+pub fn at_most(n: usize, limit: usize) -> usize
     ensures { λ r. ⌜ r ≡ least n limit ⌝ }
 {
     if n < limit { n } else { limit }

@@ -4,10 +4,12 @@ use native.Mathlib.Omega.{arith}
 use native.Mathlib.Nat.{mul-le-mul-right}
 use mathlib.Core.Path.{_≡_, refl, sym, ap, _∙_}
 use mathlib.Core.Bool.{Bool, true, false, cond, _&&_}
+use mathlib.Core.List.{List}
 use lib.Dec.{leb}
 use borrow.Author.Tests.{le-leb, lt-leb, leb-true}
 use Rattle.refusal.specs.declared.Refusal.{Refusal}
 use Rattle.refusal.specs.Refusals.{refusal}
+use Rattle.task.specs.declared.Task.{Task}
 use Rattle.task.specs.declared.Job.{Job}
 use Rattle.task.specs.Jobs.{writeOf}
 use Rattle.chain.specs.declared.Chain.{Chain}
@@ -66,6 +68,10 @@ pub windows-refused : (c : Chain) (B k : ℕ) (r : Refusal) → judged c k ≡ v
 unfolding windowsAfter toldAfter
 windows-refused c B k r e = record { answer = rw e; tells = rw e; first = rw e tt }
 
+-- the best window for a list of tasks that is another by name only
+pub top-on : (t l : List Task) → t ≡ l → (B k : ℕ) {from last j m : ℕ} → Top (windowOf t B k) from last j m → Top (windowOf l B k) from last j m
+top-on t l e B k h = rw e at h
+
 -- an accepted call, w being W1
 module _ (c : Chain) (k h : ℕ) (f : Facts c h) (well : Well c k h) (w : ℕ) (warm : w ≡ warmAt (tasksOf c) 0) where
   pub period-pos : 0 < at (c .tasks) 0 .period
@@ -86,7 +92,7 @@ module _ (c : Chain) (k h : ℕ) (f : Facts c h) (well : Well c k h) (w : ℕ) (
   some-start = omega (arith, starts-are, starts-pos (tasksOf c) (f .passes .sound))
 
   pub last-small : w + h / at (c .tasks) 0 .period ≤ 1000000000000
-  last-small = number-small c (f .passes) (w + h / at (c .tasks) 0 .period) (w + h / at (c .tasks) 0 .period + k) (omega arith) range-fits
+  last-small = number-small (tasksOf c) (f .passes .sound) (w + h / at (c .tasks) 0 .period) (w + h / at (c .tasks) 0 .period + k) (omega arith) range-fits
 
   pub windows-most : (B m : ℕ) (j : Job) → judged c k ≡ verdict.Accepted h → Top (windowOf (tasksOf c) B k) (w + 1) (w + h / at (c .tasks) 0 .period) (j .0) m → Answers c B k (Most m j)
   unfolding windowsAfter toldAfter mostMisses

@@ -2,4 +2,3 @@ pub mod Windows
 pub mod Slide
 pub mod Sliding
 pub mod EveryWindow
-pub mod Survey

@@ -8,8 +8,9 @@ use task::Task;
 ghost use mathlib.Core.Path.{_≡_};
 ghost use Prim.Native.Nat.{_+_, _*_, _≤_, _<_};
 ghost use Rattle.task.specs.Jobs.{writeOf};
-ghost use Rattle.chain.specs.Chains.{tasksOf, at};
-ghost use Rattle.chain.specs.Checks.{Checked};
+ghost use Rattle.chain.specs.Chains.{at};
+ghost use Rattle.chain.specs.Checks.{Sound};
+ghost use Rattle.chain.specs.Flat.{tasksIn};
 ghost use Rattle.windows.specs.Windows.{misses, one, missesIn, afterLimits, Answers};
 ghost use Rattle.windows.specs.Slide.{FirstWindow, nextIn, betterOf, Top};
 
@@ -31,16 +32,16 @@ pub struct Best {
     pub first: Job,
 }
 
-// 1 where job j of the first place misses, else 0.
-fn missed(c: Chain, b: u64, j: Job) -> u64
-    requires { ⌜ (Checked c) × (writeOf (at (tasksOf c) 0) (j .0) ≤ 1000000000000) ⌝ }
-    ensures { λ r. ⌜ r ≡ one (misses (tasksOf c) b (j .0)) ⌝ }
+// 1 where job j of the first place misses, else 0. `tasks` is the flat list T, D, F, T, D, F, .. of the chain's tasks, here and below.
+fn missed(tasks: &[u64], b: u64, j: Job) -> u64
+    requires { ⌜ (Sound (tasksIn (now tasks))) × (writeOf (at (tasksIn (now tasks)) 0) (j .0) ≤ 1000000000000) ⌝ }
+    ensures { λ r. ⌜ r ≡ one (misses (tasksIn (now (tasks .entry))) b (j .0)) ⌝ }
 {
-    let n = c.places - 1;
-    let first = c.tasks[0];
+    let n = tasks.len() / 3 - 1;
+    let first = chain::task_at(tasks, 0);
     let start = first.read(j);
-    let k = chain::forward(c, 0, n, j);
-    let last = c.tasks[n];
+    let k = chain::forward_on(tasks, 0, n, j);
+    let last = chain::task_at(tasks, n);
     let end = last.write(k);
     if b < end.0 - start.0 {
         return 1;
@@ -49,15 +50,15 @@ fn missed(c: Chain, b: u64, j: Job) -> u64
 }
 
 // The window of the k jobs from a job on.
-fn first_window(c: Chain, b: u64, k: usize, from: Job) -> Flagged
-    requires { ⌜ (Checked c) × (k ≤ 100) × (writeOf (at (tasksOf c) 0) (from .0 + k) ≤ 1000000000000) ⌝ }
-    ensures { λ r. ⌜ FirstWindow (misses (tasksOf c) b) (from .0) k r ⌝ }
+fn first_window(tasks: &[u64], b: u64, k: usize, from: Job) -> Flagged
+    requires { ⌜ (Sound (tasksIn (now tasks))) × (k ≤ 100) × (writeOf (at (tasksIn (now tasks)) 0) (from .0 + k) ≤ 1000000000000) ⌝ }
+    ensures { λ r. ⌜ FirstWindow (misses (tasksIn (now (tasks .entry))) b) (from .0) k r ⌝ }
 {
     let mut flags = [0u64; 100];
     let mut count: u64 = 0;
     let mut i: usize = 0;
     while i < k {
-        let new = missed(c, b, Job(from.0 + (i as u64)));
+        let new = missed(tasks, b, Job(from.0 + (i as u64)));
         flags[i] = new;
         count += new;
         i += 1;
@@ -93,12 +94,12 @@ fn better(best: Best, count: u64, s: Job) -> Best
 }
 
 // The best of the windows from the jobs `from` to `last`. The flags are a ring: the job that enters takes the entry of the job that leaves, so a start costs one walk whatever k is.
-fn slide(c: Chain, b: u64, k: u64, from: Job, last: Job) -> Best
-    requires { ⌜ (Checked c) × (1 ≤ k) × (k ≤ 100) × (from .0 ≤ last .0) × (writeOf (at (tasksOf c) 0) (last .0 + k) ≤ 1000000000000) ⌝ }
-    ensures { λ r. ⌜ Top (λ s. missesIn (misses (tasksOf c) b) s k) (from .0) (last .0) (r .first .0) (r .misses) ⌝ }
+fn slide(tasks: &[u64], b: u64, k: u64, from: Job, last: Job) -> Best
+    requires { ⌜ (Sound (tasksIn (now tasks))) × (1 ≤ k) × (k ≤ 100) × (from .0 ≤ last .0) × (writeOf (at (tasksIn (now tasks)) 0) (last .0 + k) ≤ 1000000000000) ⌝ }
+    ensures { λ r. ⌜ Top (λ s. missesIn (misses (tasksIn (now (tasks .entry))) b) s k) (from .0) (last .0) (r .first .0) (r .misses) ⌝ }
 {
     let n = k as usize;
-    let w = first_window(c, b, n, from);
+    let w = first_window(tasks, b, n, from);
     let mut flags = w.flags;
     let mut count = w.misses;
     let mut best = Best {
@@ -108,7 +109,7 @@ fn slide(c: Chain, b: u64, k: u64, from: Job, last: Job) -> Best
     let mut s = from;
     let mut i: usize = 0;
     while s.0 < last.0 {
-        let new = missed(c, b, Job(s.0 + k));
+        let new = missed(tasks, b, Job(s.0 + k));
         let old = flags[i];
         flags[i] = new;
         count = count + new - old;
@@ -158,7 +159,9 @@ pub fn most_misses(c: Chain, b: u64, k: u64) -> Windows
             let jobs = timing::warm_jobs(c);
             let w = jobs[0];
             let first = c.tasks[0];
-            let best = slide(c, b, k, Job(w.0 + 1), Job(w.0 + h / first.period));
+            let tasks = chain::flat(c);
+            let n = 3 * c.places;
+            let best = slide(&tasks[..n], b, k, Job(w.0 + 1), Job(w.0 + h / first.period));
             let from = best.first;
             Windows::Most(best.misses, from)
         }

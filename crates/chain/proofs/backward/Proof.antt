@@ -1,99 +1,38 @@
 use native.Mathlib.Omega.{arith}
-use Prim.Native.Nat.{ℕ, _-_, _≤_}
-use mathlib.Core.Path.{_≡_, refl, sym, ap, _∙_}
-use Rattle.task.specs.Jobs.{readOf, writeOf}
-use Rattle.task.specs.Links.{backwardLink}
-use Rattle.task.specs.LinkLaws.{backward-earlier}
-use Rattle.chain.specs.Chains.{tasksOf, at, backwardBy}
-use Rattle.chain.proofs.CheckLaws.{at-place, place-within}
-use Rattle.chain.proofs.Steps.{backward-none, backward-step, backward-stop}
+use Prim.Native.Nat.{ℕ, _-_, _*_, _≤_}
+use mathlib.Core.Path.{_≡_, sym, ap, _∙_}
+use mathlib.Core.List.{List}
+use Rattle.task.specs.declared.Task.{Task}
+use Rattle.task.specs.Jobs.{readOf}
+use Rattle.chain.specs.Chains.{at, backwardBy}
+use Rattle.chain.proofs.Filling.{front-is, front-sound, front-count, front-length}
 use borrow.Author.Needs.{needs}
 use Rattle.chain.proofs.backward.Statement.{statement}
 use Rattle.chain.proofs.backward.Tie as tie
 
--- the way from the start is the way from here
-abbrev Inv-loop : tie.InvT-loop
-Inv-loop p q c k₀ i₀ k i =
-    (p ≤ i) × (i ≤ q) × (readOf (at (c .tasks) i) (k .0) ≤ 1500000000000) × (backwardBy (tasksOf c) p (q - p) (k₀ .0) ≡ backwardBy (tasksOf c) p (i - p) (k .0))
+flat-requires : tie.Need-flat-requires
+flat-requires c κs = tt
 
-abbrev μ-loop : tie.MeasureT-loop
-μ-loop p q c k₀ i₀ k i = i
+mul-n : tie.Need-mul-n
+mul-n c = let k = c .before .before .pre .0 in omega (arith, k .counted, k .sound .few)
 
-few : (c : tie.Start Inv-loop μ-loop) → c .args .t1 .places ≤ 12
-few c = omega (arith, c .pre .0 .counted, c .pre .0 .sound .few)
+array-share-prefix-tasks : tie.Need-array-share-prefix-tasks
+array-share-prefix-tasks c = let k = c .before .before .pre .0 in omega (arith, k .counted, k .sound .few)
 
-loop-holds : tie.Need-loop-holds Inv-loop μ-loop
-loop-holds c =
-    let a = c .args in
-    (omega arith, omega arith, rw (at-place (a .t1) (a .q) (c .pre .2)) at (c .pre .3), refl)
+slice-aggregate-backward-on : tie.Need-slice-aggregate-backward-on
+slice-aggregate-backward-on c = front-length _ (c .before .before .before .pre .0) _ (c .before .before .flat .ensures)
 
-mul-b : tie.Need-mul-b Inv-loop μ-loop
-mul-b c = omega (arith, few (c .before .before))
+backward-on-requires : tie.Need-backward-on-requires
+backward-on-requires c κs =
+    let s = c .before .before .before in
+    let k = s .pre .0 in
+    let f = c .before .before .flat .ensures in
+    (front-sound _ k _ f, s .pre .1, omega (arith, s .pre .2, front-count _ k _ f), omega (arith, s .pre .3, ap (λ (l : List Task). readOf (at l (s .args .q)) (s .args .m .0)) (front-is _ k _ f)))
 
-element-copy-out-b : tie.Need-element-copy-out-b Inv-loop μ-loop
-element-copy-out-b c = omega (arith, few (c .before .before))
-
-sub-i : tie.Need-sub-i Inv-loop μ-loop
-sub-i c = omega arith
-
-mul-a : tie.Need-mul-a Inv-loop μ-loop
-mul-a c = omega (arith, few (c .before .before .before))
-
-element-copy-out-a : tie.Need-element-copy-out-a Inv-loop μ-loop
-element-copy-out-a c = omega (arith, few (c .before .before .before))
-
-backward-to-requires : tie.Need-backward-to-requires Inv-loop μ-loop
-backward-to-requires c κs =
-    let s = c .before .before .before .before in
-    (place-within _ (s .pre .0) (c .before .before .before .loop .i - 1) (omega (arith, s .pre .2)) .period-pos, omega (arith, c .before .before .before .loop .inv .2))
-
-enum-known-found : tie.Need-enum-known-found Inv-loop μ-loop
-enum-known-found c = search needs
-
-loop-less : tie.Need-loop-less Inv-loop μ-loop
-loop-less c = omega arith
-
-loop-again : tie.Need-loop-again Inv-loop μ-loop
-loop-again c =
-    let l = c .before .before .before .before .before .before .before .loop in
-    let s = c .before .before .before .before .before .before .before .before in
-    let t = s .args .t1 in
-    let e = sym (c .before .before .before .backward-to .ensures) ∙ c .before .found .given .1 in
-    let pos = place-within t (s .pre .0) (l .i - 1) (omega (arith, s .pre .2)) .period-pos in
-    (omega arith, omega arith, omega (arith, backward-earlier (at (t .tasks) (l .i - 1)) (at (t .tasks) (l .i)) pos _ _ e, l .inv .2), l .inv .3 ∙ backward-step t (s .args .p) (l .i) (l .k .0) (omega arith) (omega (arith, s .pre .2)) _ e)
-
-enum-told : tie.Need-enum-told Inv-loop μ-loop
-enum-told c = search needs
-
-returns : tie.Need-returns Inv-loop μ-loop
+returns : tie.Need-returns
 returns c =
-    let l = c .before .before .before .before .before .before .loop in
-    let s = c .before .before .before .before .before .before .before in
-    sym (l .inv .3 ∙ backward-stop (s .args .t1) (s .args .p) (l .i) (l .k .0) (omega arith) (omega (arith, s .pre .2)) (sym (c .before .before .backward-to .ensures) ∙ c .enum-told .given .1))
-
-returns-2 : tie.Need-returns-2 Inv-loop μ-loop
-returns-2 c =
-    let l = c .before .loop in
-    let a = c .before .before .args in
-    let e : l .i ≡ a .p = omega arith in
-    backward-none _ _ _ ∙ sym (l .inv .3 ∙ ap (λ (x : ℕ). backwardBy (tasksOf (a .t1)) (a .p) (x - a .p) (l .k .0)) e)
+    let s = c .before .before .before .before in
+    c .backward-on .ensures ∙ ap (λ (l : List Task). backwardBy l (s .args .p) (s .args .q - s .args .p) (s .args .m .0)) (front-is _ (s .pre .0) _ (c .before .before .before .flat .ensures))
 
 pub backward-spec : {M : Type 1} → statement M
-backward-spec =
-    tie.close
-    (tie.spec
-    Inv-loop
-    μ-loop
-    loop-holds
-    mul-b
-    element-copy-out-b
-    sub-i
-    mul-a
-    element-copy-out-a
-    backward-to-requires
-    enum-known-found
-    loop-less
-    loop-again
-    enum-told
-    returns
-    returns-2)
+backward-spec = tie.close (tie.spec flat-requires mul-n array-share-prefix-tasks slice-aggregate-backward-on backward-on-requires returns)

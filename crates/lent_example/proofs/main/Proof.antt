@@ -1,4 +1,4 @@
--- `lent_example::main` meets its contract: each check is true by document 01's A1 to A3 (`leaves-of-a`).
+-- `lent_example::main` meets its contract: each check is true by what making leaves for chain A (`leaves-of-a`).
 use Prim.Native.Nat.{ℕ}
 use mathlib.Core.Path.{_≡_, ap, _∙_}
 use mathlib.Core.List.{List, [], _∷_}
@@ -7,7 +7,7 @@ use borrow.Author.Needs.{needs}
 use borrow.Author.Tests.{eq-eqb}
 use Rattle.maker.specs.declared.Made.{Made}
 use Rattle.maker.specs.Making.{told}
-use Rattle.lent_example.specs.Survey.{wholeA, leaves-of-a}
+use Rattle.lent_example.proofs.ChainA.{wholeA, leaves-of-a}
 use Rattle.lent_example.proofs.main.Statement.{statement}
 use Rattle.lent_example.proofs.main.Tie as tie
 

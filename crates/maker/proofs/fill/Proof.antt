@@ -3,7 +3,8 @@ use Prim.Native.Nat.{ℕ, _+_, _-_, _≤_}
 use mathlib.Core.Path.{_≡_, refl, sym, ap, _∙_}
 use Rattle.task.specs.Jobs.{writeOf}
 use Rattle.task.specs.LinkLaws.{read-mono}
-use Rattle.chain.specs.Chains.{tasksOf, at}
+use Rattle.chain.specs.Chains.{at}
+use Rattle.chain.specs.Flat.{tasksIn}
 use Rattle.partition.specs.Partitions.{IsPartition}
 use Rattle.partition.proofs.Bounds.{start-end, end-pos, own}
 use Rattle.maker.proofs.Turn.{Going, going-start, going-turn, going-end, going-first, going-second, added-few}
@@ -13,21 +14,21 @@ use Rattle.maker.proofs.fill.Tie as tie
 
 -- `here` is the partition of the job that comes `walked` after the first
 abbrev Inv-loop : tie.InvT-loop
-Inv-loop c p n starts₀ latencies₀ walked₀ g₀ last₀ here₀ starts latencies walked g last here =
-    (here .job .0 ≡ here₀ .job .0 + walked) × (walked ≤ n) × (g ≤ walked) × IsPartition (tasksOf c) p (here .job .0) here
-    × Going (tasksOf c) p (here₀ .job .0) n starts₀ latencies₀ (here .job .0) (n - walked) (last .0) g starts latencies
+Inv-loop tasks p n starts₀ latencies₀ walked₀ g₀ last₀ here₀ starts latencies walked g last here =
+    (here .job .0 ≡ here₀ .job .0 + walked) × (walked ≤ n) × (g ≤ walked) × IsPartition (tasksIn tasks) p (here .job .0) here
+    × Going (tasksIn tasks) p (here₀ .job .0) n starts₀ latencies₀ (here .job .0) (n - walked) (last .0) g starts latencies
 
 abbrev μ-loop : tie.MeasureT-loop
-μ-loop c p n starts₀ latencies₀ walked₀ g₀ last₀ here₀ starts latencies walked g last here = n - walked
+μ-loop tasks p n starts₀ latencies₀ walked₀ g₀ last₀ here₀ starts latencies walked g last here = n - walked
 
 -- the first partition's job
-from-is : (c : tie.After-of-job Inv-loop μ-loop) → c .of-job .result .job .0 ≡ c .before .before .before .args .from .0
+from-is : (c : tie.After-of-job Inv-loop μ-loop) → c .of-job .result .job .0 ≡ c .before .before .before .before .args .from .0
 from-is c = c .of-job .ensures .of
 
 of-job-requires : tie.Need-of-job-requires Inv-loop μ-loop
 of-job-requires c κs =
-    let s = c .before .before in
-    (s .pre .0, s .pre .1, omega (arith, s .pre .4, read-mono (at (tasksOf (s .args .c)) (s .args .p)) (s .args .from .0 + 1) (s .args .from .0 + s .args .n + 1) (omega arith)))
+    let s = c .before .before .before in
+    (s .pre .0, s .pre .1, omega (arith, s .pre .4, read-mono (at (tasksIn (s .args .tasks .now)) (s .args .p)) (s .args .from .0 + 1) (s .args .from .0 + s .args .n + 1) (omega arith)))
 
 loop-holds : tie.Need-loop-holds Inv-loop μ-loop
 loop-holds c =
@@ -35,23 +36,22 @@ loop-holds c =
 
 next-requires : tie.Need-next-requires Inv-loop μ-loop
 next-requires c κs =
-    let s = c .before .before .before .before .before in
+    let s = c .before .before .before .before .before .before in
     let l = c .before .loop in
-    (s .pre .0, s .pre .1, omega (arith, s .pre .4, from-is (c .before .before), l .inv .0, read-mono (at (tasksOf (s .args .c)) (s .args .p)) (l .here .job .0 + 1 + 1) (s .args .from .0 + s .args .n + 1) (omega (arith, from-is (c .before .before), l .inv .0))))
+    (s .pre .0, s .pre .1, omega (arith, s .pre .4, from-is (c .before .before), l .inv .0, read-mono (at (tasksIn (s .args .tasks .now)) (s .args .p)) (l .here .job .0 + 1 + 1) (s .args .from .0 + s .args .n + 1) (omega (arith, from-is (c .before .before), l .inv .0))))
 
 add-anchor-requires : tie.Need-add-anchor-requires Inv-loop μ-loop
 add-anchor-requires c κs =
-    let s = c .before .before .before .before .before .before .before .before in
+    let s = c .before .before .before .before .before .before .before .before .before in
     let l = c .before .before .before .before .loop in
     let i = l .inv .3 in
-    let k = s .pre .0 in
-    (omega (arith, i .starts, i .ends, start-end (tasksOf (s .args .c)) (k .sound) (s .args .p) (omega (arith, k .counted, s .pre .1)) (l .here .job .0) (omega (arith, s .pre .2, l .inv .0, from-is (c .before .before .before .before .before)))), omega (arith, s .pre .3, l .inv .1, l .inv .2))
+    (omega (arith, i .starts, i .ends, start-end (tasksIn (s .args .tasks .now)) (s .pre .0) (s .args .p) (s .pre .1) (l .here .job .0) (omega (arith, s .pre .2, l .inv .0, from-is (c .before .before .before .before .before)))), omega (arith, s .pre .3, l .inv .1, l .inv .2))
 
 last-end-requires : tie.Need-last-end-requires Inv-loop μ-loop
 last-end-requires c κs = tt
 
 add-walked : tie.Need-add-walked Inv-loop μ-loop
-add-walked c = omega (arith, c .before .before .before .before .before .before .before .before .before .before .before .before .before .before .pre .3, c .before .before .before .before .before .before .before .before .before .before .loop .inv .1)
+add-walked c = omega (arith, c .before .before .before .before .before .before .before .before .before .before .before .before .before .before .before .pre .3, c .before .before .before .before .before .before .before .before .before .before .loop .inv .1)
 
 loop-less : tie.Need-loop-less Inv-loop μ-loop
 loop-less c = omega (arith, c .before .before .before .before .before .before .before .before .before .loop-test .taken)
@@ -79,10 +79,9 @@ same-length-2 c = going-second _ _ _ _ _ _ _ _ _ _ _ _ (c .before .loop .inv .4)
 returns : tie.Need-returns Inv-loop μ-loop
 returns c =
     let l = c .before .loop in
-    let s = c .before .before .before .before .before in
-    let k = s .pre .0 in
+    let s = c .before .before .before .before .before .before in
     rw (sym (from-is (c .before .before)))
-    (going-end _ _ _ _ _ _ _ _ _ _ _ _ (l .inv .4) _ (end-pos (tasksOf (s .args .c)) (k .sound) (s .args .p) (omega (arith, k .counted, s .pre .1))) (omega arith) refl (omega arith))
+    (going-end _ _ _ _ _ _ _ _ _ _ _ _ (l .inv .4) _ (end-pos (tasksIn (s .args .tasks .now)) (s .pre .0) (s .args .p) (s .pre .1)) (omega arith) refl (omega arith))
 
 pub fill-spec : {M : Type 1} → statement M
 fill-spec =

@@ -2,6 +2,7 @@ use native.Mathlib.Omega.{arith}
 use native.Mathlib.Nat.{div-le-self}
 use Prim.Native.Nat.{ℕ, _+_, _-_, _/_, _<_, _≤_}
 use mathlib.Core.Path.{_≡_, sym, ap, _∙_}
+use mathlib.Core.List.{List}
 use lib.ListN.{length, length-map}
 use Rattle.task.specs.declared.Task.{Task}
 use Rattle.task.specs.Jobs.{writeOf}
@@ -9,12 +10,13 @@ use Rattle.chain.specs.declared.Verdict.{Verdict}
 use Rattle.chain.specs.declared.Verdict.the-variants as verdict
 use Rattle.chain.specs.Chains.{tasksOf, at}
 use Rattle.chain.specs.Checks.{verdictOf, Checked}
+use Rattle.chain.proofs.Filling.{front-is, front-sound, front-count, front-length}
 use Rattle.chain.proofs.CheckLaws.{Facts, accepted, at-place, place-within}
 use Rattle.timing.specs.WarmUp.{warmAt}
 use Rattle.timing.proofs.Whole.{few, warm-tick-is, warm-tick-fits}
 use Rattle.timing.proofs.Exits.{entry-job}
 use Rattle.maker.specs.Making.{afterChecks, judged}
-use Rattle.maker.proofs.Exits.{Well, well, range-fits, made-refused, made-whole, made-short}
+use Rattle.maker.proofs.Exits.{Well, well, range-fits, filled-on, made-refused, made-whole, made-short}
 use borrow.Author.Needs.{needs}
 use Rattle.maker.proofs.make_table.Statement.{statement}
 use Rattle.maker.proofs.make_table.Tie as tie
@@ -86,24 +88,37 @@ mul-t c = omega (arith, place (c .before .before .before .before .before), few _
 element-copy-out-t : tie.Need-element-copy-out-t
 element-copy-out-t c = omega (arith, place (c .before .before .before .before .before), few _ (facts (c .before .before .before .before .before) .passes))
 
+flat-requires : tie.Need-flat-requires
+flat-requires c κs = tt
+
+mul-n : tie.Need-mul-n
+mul-n c = omega (arith, few _ (facts (c .before .before .before .before .before .before .before) .passes))
+
+array-share-prefix-tasks : tie.Need-array-share-prefix-tasks
+array-share-prefix-tasks c = omega (arith, few _ (facts (c .before .before .before .before .before .before .before) .passes))
+
+slice-aggregate-fill : tie.Need-slice-aggregate-fill
+slice-aggregate-fill c = front-length _ (facts (c .before .before .before .before .before .before .before .before) .passes) _ (c .before .flat .ensures)
+
 div-fill : tie.Need-div-fill
-div-fill c = omega (arith, place-within _ (facts (c .before .before .before .before .before .before .before) .passes) _ (place (c .before .before .before .before .before .before .before)) .period-pos)
+div-fill c = omega (arith, place-within _ (facts (c .before .before .before .before .before .before .before .before .before) .passes) _ (place (c .before .before .before .before .before .before .before .before .before)) .period-pos)
 
 fill-requires : tie.Need-fill-requires
 fill-requires c κs =
-    let v = c .before .before .before .before .before .before .before .before .before in
+    let v = c .before .before .before .before .before .before .before .before .before .before .before in
     let a = v .before .before .before .before .before .before .before .args in
     let f = facts v in
     let k = f .passes in
     let h : ℕ = v .before .v2 .given .0 .0 in
-    let w = entry-job _ (k .sound) _ (c .before .before .before .before .before .before .before .before .warm-jobs .ensures) (a .p - 1) (inside v) in
+    let w = entry-job _ (k .sound) _ (c .before .before .before .before .before .before .before .before .before .before .warm-jobs .ensures) (a .p - 1) (inside v) in
     let t = at-place (a .t1) (a .p - 1) (place v) in
+    let g = c .before .before .before .before .flat .ensures in
     let r = range-fits (tasksOf (a .t1)) (k .sound) (a .p - 1) h (inside v) (f .small) in (
-      k,
-      place v,
-      omega (arith, w),
+      front-sound _ k _ g,
+      omega (arith, place v, front-count _ k _ g),
+      omega (arith, w, ap (λ (l : List Task). warmAt l (a .p - 1)) (front-is _ k _ g)),
       omega (arith, div-le-self h (at (a .t1 .tasks) (a .p - 1) .period), f .small),
-      rw w (rw (ap (λ (x : Task). h / x .period) t) at r),
+      rw (front-is _ k _ g, w) (rw (ap (λ (x : Task). h / x .period) t) at r),
     )
 
 same-length : tie.Need-same-length
@@ -114,12 +129,12 @@ same-length-2 c = search needs
 
 returns-2 : tie.Need-returns-2
 returns-2 c =
-    let v = c .before .before .before .before .before .before .before .before .before .before .before .before .before .before .before .before in
+    let v = c .before .before .before .before .before .before .before .before .before .before .before .before .before .before .before .before .before .before in
     let a = v .before .before .before .before .before .before .before .args in
     let k = facts v .passes in
-    let e = c .before .before .before .before .before .before .before .before .before .before .before .before .before .before .before .warm-jobs .ensures in
-    made-whole _ _ _ _ _ _ _ _ _ _ _ (yes v) (entry-job _ (k .sound) _ e (a .p - 1) (inside v)) (c .before .before .before .before .before .before .before .before .before .before .before .read .ensures ∙ warm-tick-is _ k _ (entry-job _ (k .sound) _ e 0 (k .sound .some)))
-    (ap (λ (x : Task). v .before .v2 .given .0 .0 / x .period) (sym (at-place (a .t1) (a .p - 1) (place v)))) (c .before .before .before .before .before .before .fill .ensures) (c .if1 .taken)
+    let e = c .before .before .before .before .before .before .before .before .before .before .before .before .before .before .before .before .before .warm-jobs .ensures in
+    made-whole _ _ _ _ _ _ _ _ _ _ _ (yes v) (entry-job _ (k .sound) _ e (a .p - 1) (inside v)) (c .before .before .before .before .before .before .before .before .before .before .before .before .before .read .ensures ∙ warm-tick-is _ k _ (entry-job _ (k .sound) _ e 0 (k .sound .some)))
+    (ap (λ (x : Task). v .before .v2 .given .0 .0 / x .period) (sym (at-place (a .t1) (a .p - 1) (place v)))) (filled-on _ (tasksOf (a .t1)) (front-is _ k _ (c .before .before .before .before .before .before .before .before .before .before .before .flat .ensures)) (c .before .before .before .before .before .before .fill .ensures)) (c .if1 .taken)
 
 same-length-3 : tie.Need-same-length-3
 same-length-3 c = search needs
@@ -129,12 +144,12 @@ same-length-4 c = search needs
 
 returns-3 : tie.Need-returns-3
 returns-3 c =
-    let v = c .before .before .before .before .before .before .before .before .before .before .before .before .before .before .before .before in
+    let v = c .before .before .before .before .before .before .before .before .before .before .before .before .before .before .before .before .before .before in
     let a = v .before .before .before .before .before .before .before .args in
     let k = facts v .passes in
-    let e = c .before .before .before .before .before .before .before .before .before .before .before .before .before .before .before .warm-jobs .ensures in
-    made-short _ _ _ _ _ _ _ _ _ _ _ (yes v) (entry-job _ (k .sound) _ e (a .p - 1) (inside v)) (c .before .before .before .before .before .before .before .before .before .before .before .read .ensures ∙ warm-tick-is _ k _ (entry-job _ (k .sound) _ e 0 (k .sound .some)))
-    (ap (λ (x : Task). v .before .v2 .given .0 .0 / x .period) (sym (at-place (a .t1) (a .p - 1) (place v)))) (c .before .before .before .before .before .before .fill .ensures) (c .if1 .left)
+    let e = c .before .before .before .before .before .before .before .before .before .before .before .before .before .before .before .before .before .warm-jobs .ensures in
+    made-short _ _ _ _ _ _ _ _ _ _ _ (yes v) (entry-job _ (k .sound) _ e (a .p - 1) (inside v)) (c .before .before .before .before .before .before .before .before .before .before .before .before .before .read .ensures ∙ warm-tick-is _ k _ (entry-job _ (k .sound) _ e 0 (k .sound .some)))
+    (ap (λ (x : Task). v .before .v2 .given .0 .0 / x .period) (sym (at-place (a .t1) (a .p - 1) (place v)))) (filled-on _ (tasksOf (a .t1)) (front-is _ k _ (c .before .before .before .before .before .before .before .before .before .before .before .flat .ensures)) (c .before .before .before .before .before .before .fill .ensures)) (c .if1 .left)
 
 pub make-table-spec : {M : Type 1} → statement M
 make-table-spec =
@@ -154,6 +169,10 @@ make-table-spec =
     read-requires
     mul-t
     element-copy-out-t
+    flat-requires
+    mul-n
+    array-share-prefix-tasks
+    slice-aggregate-fill
     div-fill
     fill-requires
     same-length

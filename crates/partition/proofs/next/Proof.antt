@@ -1,5 +1,6 @@
 use native.Mathlib.Omega.{arith}
 use Prim.Native.Nat.{_+_}
+use Rattle.chain.specs.Flat.{tasksIn}
 use Rattle.partition.proofs.Bounds.{job-top}
 use borrow.Author.Needs.{needs}
 use Rattle.partition.proofs.next.Statement.{statement}
@@ -7,8 +8,8 @@ use Rattle.partition.proofs.next.Tie as tie
 
 add-t5 : tie.Need-add-t5
 add-t5 c =
-    let s = c .before .before in
-    omega (arith, job-top (s .args .c) (s .pre .0) (s .args .p) (s .args .here .job .0 + 1) (s .pre .1) (s .pre .2))
+    let s = c .before .before .before in
+    omega (arith, job-top (tasksIn (s .args .tasks .now)) (s .pre .0) (s .args .p) (s .args .here .job .0 + 1) (s .pre .1) (s .pre .2))
 
 of-job-requires : tie.Need-of-job-requires
 of-job-requires c κs = search needs

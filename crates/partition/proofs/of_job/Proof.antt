@@ -1,62 +1,65 @@
 use native.Mathlib.Omega.{arith}
-use Prim.Native.Nat.{_-_}
-use mathlib.Core.Path.{_≡_, refl, ap, _∙_}
-use Rattle.chain.specs.Chains.{tasksOf, backwardBy, jobOf}
-use Rattle.timing.proofs.Whole.{some, few}
+use Prim.Native.Nat.{_-_, _/_}
+use mathlib.Core.Path.{_≡_, refl, sym, ap, _∙_}
+use lib.ListN.{length}
+use Rattle.chain.specs.Chains.{backwardBy, jobOf}
+use Rattle.chain.specs.Flat.{tasksIn, in-count, in-last}
 use Rattle.partition.proofs.Bounds.{start-is, end-is, start-small, end-small, job-top}
 use borrow.Author.Needs.{needs}
 use Rattle.partition.proofs.of_job.Statement.{statement}
 use Rattle.partition.proofs.of_job.Tie as tie
 
 -- the job that the way backward comes to
-back : (c : tie.After-job-of) → c .job-of .result .0 ≡ jobOf (backwardBy (tasksOf (c .before .before .args .t1)) 0 (c .before .before .args .p - 0) (c .before .before .args .m .0))
-back c = c .job-of .ensures ∙ ap jobOf (c .before .backward .ensures)
+back : (c : tie.After-job-of) → c .job-of .result .0 ≡ jobOf (backwardBy (tasksIn (c .before .before .before .args .tasks .now)) 0 (c .before .before .before .args .p - 0) (c .before .before .before .args .m .0))
+back c = c .job-of .ensures ∙ ap jobOf (c .before .backward-on .ensures)
 
 sub-n : tie.Need-sub-n
-sub-n c = some _ (c .pre .0)
+sub-n c = let s = c .before in omega (arith, in-count (s .args .tasks .now), s .pre .1)
 
-backward-requires : tie.Need-backward-requires
-backward-requires c κs = search needs
+backward-on-requires : tie.Need-backward-on-requires
+backward-on-requires c κs = search needs
 
 job-of-requires : tie.Need-job-of-requires
 job-of-requires c κs = tt
 
-element-copy-out-first : tie.Need-element-copy-out-first
-element-copy-out-first c = search needs
+task-at-requires : tie.Need-task-at-requires
+task-at-requires c κs = search needs
 
 read-requires : tie.Need-read-requires
 read-requires c κs =
-    let s = c .before .before .before in
-    start-small _ (s .pre .0) (s .args .p) (s .args .m .0) (s .pre .1) (s .pre .2) _ (back (c .before))
+    let s = c .before .before .before .before in
+    start-small (tasksIn (s .args .tasks .now)) (s .pre .0) (s .args .p) (s .args .m .0) _ _ (c .task-at .ensures) (back (c .before)) (s .pre .1) (s .pre .2)
 
-add-t18 : tie.Need-add-t18
-add-t18 c =
-    let s = c .before .before .before .before .before in
-    omega (arith, job-top (s .args .t1) (s .pre .0) (s .args .p) (s .args .m .0) (s .pre .1) (s .pre .2))
+add-t14 : tie.Need-add-t14
+add-t14 c =
+    let s = c .before .before .before .before .before .before in
+    omega (arith, job-top (tasksIn (s .args .tasks .now)) (s .pre .0) (s .args .p) (s .args .m .0) (s .pre .1) (s .pre .2))
 
-forward-requires : tie.Need-forward-requires
-forward-requires c κs =
-    let s = c .before .before .before .before .before in
-    (s .pre .0, omega (arith, s .pre .1), omega (arith, some _ (s .pre .0)), omega (arith, s .pre .2))
+forward-on-requires : tie.Need-forward-on-requires
+forward-on-requires c κs =
+    let s = c .before .before .before .before .before .before in
+    let e = in-count (s .args .tasks .now) in
+    (s .pre .0, omega (arith, s .pre .1, e), omega (arith, s .pre .1, e), omega (arith, s .pre .2))
 
-mul-last : tie.Need-mul-last
-mul-last c = omega (arith, some _ (c .before .before .before .before .before .before .pre .0), few _ (c .before .before .before .before .before .before .pre .0))
-
-element-copy-out-last : tie.Need-element-copy-out-last
-element-copy-out-last c = omega (arith, some _ (c .before .before .before .before .before .before .pre .0), few _ (c .before .before .before .before .before .before .pre .0))
+task-at-requires-2 : tie.Need-task-at-requires-2
+task-at-requires-2 c κs =
+    let s = c .before .before .before .before .before .before .before in
+    let e = in-count (s .args .tasks .now) in
+    (omega (arith, s .pre .1, e), omega (arith, s .pre .1, e, s .pre .0 .few))
 
 write-requires : tie.Need-write-requires
 write-requires c κs =
-    let s = c .before .before .before .before .before .before .before in
-    end-small _ (s .pre .0) (s .args .p) (s .args .m .0) (s .pre .1) (s .pre .2) _ (c .before .forward .ensures)
+    let s = c .before .before .before .before .before .before .before .before in
+    end-small (tasksIn (s .args .tasks .now)) (s .pre .0) (s .args .p) (s .args .m .0) _ _ _ (in-last (s .args .tasks .now)) (c .task-at2 .ensures) (c .before .forward-on .ensures) (s .pre .1) (s .pre .2)
 
 returns : tie.Need-returns
 returns c =
-    let s = c .before .before .before .before .before .before .before .before in
+    let r = c .before .before .before .before in
+    let s = r .before .before .before .before .before in
     record {
       of = refl;
-      starts = c .before .before .before .before .read .ensures ∙ start-is _ (s .pre .0) (s .args .p) (s .args .m .0) _ (back (c .before .before .before .before .before .before));
-      ends = c .write .ensures ∙ end-is _ (s .pre .0) (s .args .p) (s .args .m .0) _ (c .before .before .forward .ensures);
+      starts = r .read .ensures ∙ start-is (tasksIn (s .args .tasks .now)) (s .pre .0) (s .args .p) (s .args .m .0) _ _ (r .before .task-at .ensures) (back (r .before .before));
+      ends = c .write .ensures ∙ end-is (tasksIn (s .args .tasks .now)) (s .pre .0) (s .args .p) (s .args .m .0) _ _ _ (in-last (s .args .tasks .now)) (c .before .task-at2 .ensures) (c .before .before .forward-on .ensures);
     }
 
 pub of-job-spec : {M : Type 1} → statement M
@@ -64,13 +67,12 @@ of-job-spec =
     tie.close
     (tie.spec
     sub-n
-    backward-requires
+    backward-on-requires
     job-of-requires
-    element-copy-out-first
+    task-at-requires
     read-requires
-    add-t18
-    forward-requires
-    mul-last
-    element-copy-out-last
+    add-t14
+    forward-on-requires
+    task-at-requires-2
     write-requires
     returns)

@@ -4,12 +4,14 @@ use lib.ListN.{length-map, getD}
 use Rattle.chain.specs.declared.Verdict.{Verdict}
 use Rattle.chain.specs.declared.Verdict.the-variants.{Accepted}
 use Rattle.chain.specs.Chains.{tasksOf}
+use Rattle.chain.proofs.Filling.{front-is, front-sound, front-length}
 use Rattle.chain.proofs.CheckLaws.{Facts, accepted}
 use Rattle.timing.specs.WarmUp.{warmAt}
+use Rattle.timing.proofs.Whole.{few}
 use Rattle.timing.proofs.Entries.{noJob}
 use Rattle.timing.proofs.Exits.{entry-job}
 use Rattle.windows.specs.Windows.{afterLimits, judged}
-use Rattle.windows.proofs.Exits.{Well, well, windows-refused, period-pos, range-fits, some-start, last-small, windows-most}
+use Rattle.windows.proofs.Exits.{Well, well, windows-refused, period-pos, range-fits, some-start, last-small, top-on, windows-most}
 use borrow.Author.Needs.{needs}
 use Rattle.windows.proofs.most_misses.Statement.{statement}
 use Rattle.windows.proofs.most_misses.Tie as tie
@@ -56,25 +58,41 @@ array-copy-out-w c = search needs
 element-copy-out-first : tie.Need-element-copy-out-first
 element-copy-out-first c = search needs
 
-add-t24 : tie.Need-add-t24
-add-t24 c = omega (arith, some-start _ _ _ (facts (c .before .before .before .before)) (fine (c .before .before .before .before)) _ (warm (c .before .before .before)), last-small _ _ _ (facts (c .before .before .before .before)) (fine (c .before .before .before .before)) _ (warm (c .before .before .before)))
+flat-requires : tie.Need-flat-requires
+flat-requires c κs = tt
 
-div-t25 : tie.Need-div-t25
-div-t25 c = period-pos _ _ _ (facts (c .before .before .before .before .before)) (fine (c .before .before .before .before .before)) _ (warm (c .before .before .before .before))
+mul-n : tie.Need-mul-n
+mul-n c = omega (arith, few _ (facts (c .before .before .before .before) .passes))
 
-add-t26 : tie.Need-add-t26
-add-t26 c = omega (arith, last-small _ _ _ (facts (c .before .before .before .before .before .before)) (fine (c .before .before .before .before .before .before)) _ (warm (c .before .before .before .before .before)))
+array-share-prefix-tasks : tie.Need-array-share-prefix-tasks
+array-share-prefix-tasks c = omega (arith, few _ (facts (c .before .before .before .before) .passes))
+
+slice-aggregate-slide : tie.Need-slice-aggregate-slide
+slice-aggregate-slide c = front-length _ (facts (c .before .before .before .before .before) .passes) _ (c .before .flat .ensures)
+
+add-t30 : tie.Need-add-t30
+add-t30 c = omega (arith, some-start _ _ _ (facts (c .before .before .before .before .before .before)) (fine (c .before .before .before .before .before .before)) _ (warm (c .before .before .before .before .before)), last-small _ _ _ (facts (c .before .before .before .before .before .before)) (fine (c .before .before .before .before .before .before)) _ (warm (c .before .before .before .before .before)))
+
+div-t31 : tie.Need-div-t31
+div-t31 c = period-pos _ _ _ (facts (c .before .before .before .before .before .before .before)) (fine (c .before .before .before .before .before .before .before)) _ (warm (c .before .before .before .before .before .before))
+
+add-t32 : tie.Need-add-t32
+add-t32 c = omega (arith, last-small _ _ _ (facts (c .before .before .before .before .before .before .before .before)) (fine (c .before .before .before .before .before .before .before .before)) _ (warm (c .before .before .before .before .before .before .before)))
 
 slide-requires : tie.Need-slide-requires
 slide-requires c κs =
-    let v = c .before .before .before .before .before .before in
-    (facts v .passes, fine v .low, fine v .high, omega (arith, some-start _ _ _ (facts v) (fine v) _ (warm (c .before .before .before .before .before))), range-fits _ _ _ (facts v) (fine v) _ (warm (c .before .before .before .before .before)))
+    let v = c .before .before .before .before .before .before .before .before in
+    let k = facts v .passes in
+    let g = c .before .before .before .before .flat .ensures in
+    let t = v .before .before .before .before .before .args .t1 in
+    let r = range-fits _ _ _ (facts v) (fine v) _ (warm (c .before .before .before .before .before .before .before)) in
+    (front-sound _ k _ g, fine v .low, fine v .high, omega (arith, some-start _ _ _ (facts v) (fine v) _ (warm (c .before .before .before .before .before .before .before))), rw (front-is t k _ g) r)
 
 returns-2 : tie.Need-returns-2
 returns-2 c =
-    let v = c .before .before .before .before .before .before .before .before in
+    let v = c .before .before .before .before .before .before .before .before .before .before in
     let a = v .before .before .before .before .before .args in
-    windows-most (a .t1) (a .k) _ (facts v) (fine v) _ (warm (c .before .before .before .before .before .before .before)) (a .b) (c .before .slide .result .misses) (c .before .slide .result .first) (yes v) (c .before .slide .ensures)
+    windows-most (a .t1) (a .k) _ (facts v) (fine v) _ (warm (c .before .before .before .before .before .before .before .before .before)) (a .b) (c .before .slide .result .misses) (c .before .slide .result .first) (yes v) (top-on _ (tasksOf (a .t1)) (front-is _ (facts v .passes) _ (c .before .before .before .before .before .before .flat .ensures)) (a .b) (a .k) (c .before .slide .ensures))
 
 pub most-misses-spec : {M : Type 1} → statement M
 most-misses-spec =
@@ -88,8 +106,12 @@ most-misses-spec =
     warm-jobs-requires
     array-copy-out-w
     element-copy-out-first
-    add-t24
-    div-t25
-    add-t26
+    flat-requires
+    mul-n
+    array-share-prefix-tasks
+    slice-aggregate-slide
+    add-t30
+    div-t31
+    add-t32
     slide-requires
     returns-2)

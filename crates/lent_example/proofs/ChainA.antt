@@ -1,4 +1,4 @@
--- Document 01, "Survey examples", A1 to A3: what making gives for chain A, lent as a list and cut at place 1, computed from the definitions.
+-- What making gives for document 01's chain A, lent as a list and cut at place 1, in two lists of three entries: computed from the definitions.
 use Prim.Native.Nat.{ℕ}
 use mathlib.Core.Path.{_≡_, refl, ap, _∙_}
 use mathlib.Core.List.{List, [], _∷_}

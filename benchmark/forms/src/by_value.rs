@@ -1,0 +1,281 @@
+//! The chain as a struct of twelve tasks and a count, passed by value from function to function, which are those of the crates.
+//! rustc would leave the copies out, since no function changes its chain. `received` makes it copy, at the calls where the archives copy.
+use plain::maker::{Figures, Made};
+use plain::task::Task;
+use plain::{Refusal, HYPERPERIOD_LIMIT, UPPER_TICK};
+use std::hint::black_box;
+
+#[derive(Clone, Copy)]
+pub struct Chain {
+    pub tasks: [Task; 12],
+    pub places: usize,
+}
+
+#[derive(Clone, Copy)]
+struct Partition {
+    start: u64,
+    end: u64,
+}
+
+/// A chain that something unknown may look at and change must be a copy.
+fn received(c: &Chain) {
+    black_box(c);
+}
+
+fn refusal(number: u64, place: usize) -> Refusal {
+    Refusal { number, place }
+}
+
+fn task_at(list: &[u64], i: usize) -> Task {
+    let at = 3 * i;
+    if list.len() < at + 3 {
+        return Task { period: 0, duration: 0, phase: 0 };
+    }
+    Task { period: list[at], duration: list[at + 1], phase: list[at + 2] }
+}
+
+pub fn chain_from(list: &[u64], places: usize) -> Chain {
+    let mut tasks = [Task { period: 0, duration: 0, phase: 0 }; 12];
+    for (i, task) in tasks.iter_mut().enumerate() {
+        *task = task_at(list, i);
+    }
+    let places = if list.len() % 3 != 0 || list.len() / 3 < places { 0 } else { places };
+    Chain { tasks, places }
+}
+
+fn gcd(a: u64, b: u64) -> u64 {
+    if b == 0 {
+        a
+    } else {
+        gcd(b, a % b)
+    }
+}
+
+fn first_fault(c: Chain) -> usize {
+    received(&c);
+    for i in 0..c.places {
+        if !c.tasks[i].within_limits() {
+            return i + 1;
+        }
+    }
+    0
+}
+
+fn hyper_verdict(c: Chain) -> Result<u64, Refusal> {
+    received(&c);
+    let mut h = 1;
+    for i in 0..c.places {
+        let period = c.tasks[i].period;
+        h = h / gcd(h, period) * period;
+        if HYPERPERIOD_LIMIT < h {
+            return Err(refusal(7, 0));
+        }
+    }
+    Ok(h)
+}
+
+fn check(c: Chain) -> Result<u64, Refusal> {
+    if c.places < 1 || 12 < c.places {
+        return Err(refusal(8, 0));
+    }
+    let place = first_fault(c);
+    if place != 0 {
+        return Err(refusal(5, place));
+    }
+    hyper_verdict(c)
+}
+
+fn forward(c: Chain, p: usize, q: usize, job: u64) -> u64 {
+    received(&c);
+    let mut k = job;
+    let mut i = p;
+    while i < q {
+        let a = c.tasks[i];
+        i += 1;
+        k = a.forward_to(&c.tasks[i], k);
+    }
+    k
+}
+
+fn backward(c: Chain, p: usize, q: usize, job: u64) -> Option<u64> {
+    received(&c);
+    let mut k = job;
+    let mut i = q;
+    while p < i {
+        let b = c.tasks[i];
+        i -= 1;
+        k = b.backward_to(&c.tasks[i], k)?;
+    }
+    Some(k)
+}
+
+fn warm_last(c: Chain) -> u64 {
+    forward(c, 0, c.places - 1, 0)
+}
+
+fn warm_jobs(c: Chain) -> [u64; 12] {
+    let mut jobs = [0; 12];
+    let mut i = c.places - 1;
+    let mut k = warm_last(c);
+    jobs[i] = k;
+    while 0 < i {
+        let b = c.tasks[i];
+        i -= 1;
+        k = b.backward_to(&c.tasks[i], k).unwrap_or(0);
+        jobs[i] = k;
+    }
+    jobs
+}
+
+fn warm_tick(c: Chain) -> u64 {
+    let k = warm_last(c);
+    c.tasks[0].read(backward(c, 0, c.places - 1, k).unwrap_or(0))
+}
+
+fn delay_ticks(c: Chain, t: u64) -> u64 {
+    let n = c.places - 1;
+    let j = c.tasks[0].earliest_after(t);
+    c.tasks[n].write(forward(c, 0, n, j)) - t
+}
+
+pub fn delay(c: Chain, t: u64) -> Result<u64, Refusal> {
+    check(c)?;
+    if t < warm_tick(c) {
+        return Err(refusal(12, 0));
+    }
+    if UPPER_TICK < t {
+        return Err(refusal(13, 0));
+    }
+    Ok(delay_ticks(c, t))
+}
+
+fn first_aged(c: Chain) -> u64 {
+    c.tasks[c.places - 1].write(warm_last(c))
+}
+
+fn age_ticks(c: Chain, z: u64) -> u64 {
+    let n = c.places - 1;
+    let k = c.tasks[n].latest_by(z).unwrap_or(0);
+    z - c.tasks[0].read(backward(c, 0, n, k).unwrap_or(0))
+}
+
+pub fn age(c: Chain, z: u64) -> Result<u64, Refusal> {
+    check(c)?;
+    if z < first_aged(c) {
+        return Err(refusal(12, 0));
+    }
+    if UPPER_TICK < z {
+        return Err(refusal(13, 0));
+    }
+    Ok(age_ticks(c, z))
+}
+
+fn of_job(c: Chain, p: usize, m: u64) -> Partition {
+    received(&c);
+    let n = c.places - 1;
+    let start = c.tasks[0].read(backward(c, 0, p, m).unwrap_or(0));
+    let end = c.tasks[n].write(forward(c, p, n, m + 1));
+    Partition { start, end }
+}
+
+fn store(list: &mut [u64], at: usize, value: u64) {
+    if at < list.len() {
+        list[at] = value;
+    }
+}
+
+fn add_anchor(here: Partition, next: Partition, last: u64, g: usize, starts: &mut [u64], latencies: &mut [u64]) -> usize {
+    if next.start == here.start || here.end == last {
+        return g;
+    }
+    store(starts, g, here.start);
+    store(latencies, g, here.end - here.start);
+    g + 1
+}
+
+fn last_end(here: Partition, next: Partition, last: u64) -> u64 {
+    if next.start == here.start {
+        return last;
+    }
+    here.end
+}
+
+fn fill(c: Chain, p: usize, from: u64, n: u64, starts: &mut [u64], latencies: &mut [u64]) -> (usize, u64) {
+    let mut walked = 0;
+    let mut g = 0;
+    let mut last = 0;
+    let mut here = of_job(c, p, from);
+    while walked < n {
+        let following = of_job(c, p, from + walked + 1);
+        g = add_anchor(here, following, last, g, starts, latencies);
+        last = last_end(here, following, last);
+        here = following;
+        walked += 1;
+    }
+    (g, walked)
+}
+
+pub fn make_table(c: Chain, p: usize, starts: &mut [u64], latencies: &mut [u64]) -> Made {
+    let h = match check(c) {
+        Err(r) => return Made::Refused(r),
+        Ok(h) => h,
+    };
+    if p < 1 || c.places < p {
+        return Made::Refused(refusal(9, 0));
+    }
+    if starts.len() != latencies.len() {
+        return Made::Refused(refusal(10, 0));
+    }
+    let q = p - 1;
+    let jobs = warm_jobs(c);
+    let tick = c.tasks[0].read(jobs[0]);
+    let (anchors, walked) = fill(c, q, jobs[q], h / c.tasks[q].period, starts, latencies);
+    let figures = Figures { anchors, tick, hyperperiod: h, walked };
+    if anchors <= starts.len() {
+        Made::Whole(figures)
+    } else {
+        Made::Short(figures)
+    }
+}
+
+fn missed(c: Chain, b: u64, j: u64) -> u64 {
+    received(&c);
+    let n = c.places - 1;
+    let start = c.tasks[0].read(j);
+    let end = c.tasks[n].write(forward(c, 0, n, j));
+    (b < end - start) as u64
+}
+
+fn slide(c: Chain, b: u64, k: u64, from: u64, last: u64) -> (u64, u64) {
+    let n = k as usize;
+    let mut flags = [0u64; 100];
+    let mut count = 0;
+    for i in 0..n {
+        flags[i] = missed(c, b, from + i as u64);
+        count += flags[i];
+    }
+    let mut best = (count, from);
+    let mut s = from;
+    let mut i = 0;
+    while s < last {
+        let new = missed(c, b, s + k);
+        let old = flags[i];
+        flags[i] = new;
+        count = count + new - old;
+        s += 1;
+        i = if i + 1 < n { i + 1 } else { 0 };
+        if best.0 < count {
+            best = (count, s);
+        }
+    }
+    best
+}
+
+pub fn most_misses(c: Chain, b: u64, k: u64) -> Result<(u64, u64), Refusal> {
+    let h = check(c)?;
+    if k < 1 || 100 < k {
+        return Err(refusal(15, 0));
+    }
+    let w = warm_jobs(c)[0];
+    Ok(slide(c, b, k, w + 1, w + h / c.tasks[0].period))
+}

@@ -1,0 +1,197 @@
+//! The chain as the flat list T, D, F, T, D, F, .., lent from function to function, which are those of the crates.
+use plain::maker::{Figures, Made};
+use plain::task::Task;
+use plain::{Refusal, HYPERPERIOD_LIMIT, UPPER_TICK};
+
+fn refusal(number: u64, place: usize) -> Refusal {
+    Refusal { number, place }
+}
+
+fn task(list: &[u64], i: usize) -> Task {
+    let at = 3 * i;
+    Task { period: list[at], duration: list[at + 1], phase: list[at + 2] }
+}
+
+fn gcd(mut a: u64, mut b: u64) -> u64 {
+    while b != 0 {
+        (a, b) = (b, a % b);
+    }
+    a
+}
+
+fn check(list: &[u64], places: usize) -> Result<u64, Refusal> {
+    if list.len() % 3 != 0 || list.len() / 3 < places || places < 1 || 12 < places {
+        return Err(refusal(8, 0));
+    }
+    for i in 0..places {
+        if !task(list, i).within_limits() {
+            return Err(refusal(5, i + 1));
+        }
+    }
+    let mut h = 1;
+    for i in 0..places {
+        let period = task(list, i).period;
+        h = h / gcd(h, period) * period;
+        if HYPERPERIOD_LIMIT < h {
+            return Err(refusal(7, 0));
+        }
+    }
+    Ok(h)
+}
+
+fn forward(list: &[u64], p: usize, q: usize, job: u64) -> u64 {
+    let mut k = job;
+    let mut i = p;
+    while i < q {
+        let a = task(list, i);
+        i += 1;
+        k = a.forward_to(&task(list, i), k);
+    }
+    k
+}
+
+fn backward(list: &[u64], p: usize, q: usize, job: u64) -> Option<u64> {
+    let mut k = job;
+    let mut i = q;
+    while p < i {
+        let b = task(list, i);
+        i -= 1;
+        k = b.backward_to(&task(list, i), k)?;
+    }
+    Some(k)
+}
+
+fn warm_jobs(list: &[u64], places: usize) -> [u64; 12] {
+    let mut jobs = [0; 12];
+    let mut i = places - 1;
+    let mut k = forward(list, 0, i, 0);
+    jobs[i] = k;
+    while 0 < i {
+        let b = task(list, i);
+        i -= 1;
+        k = b.backward_to(&task(list, i), k).unwrap_or(0);
+        jobs[i] = k;
+    }
+    jobs
+}
+
+pub fn delay(list: &[u64], places: usize, t: u64) -> Result<u64, Refusal> {
+    check(list, places)?;
+    let n = places - 1;
+    let first = task(list, 0);
+    let warm = first.read(backward(list, 0, n, forward(list, 0, n, 0)).unwrap_or(0));
+    if t < warm {
+        return Err(refusal(12, 0));
+    }
+    if UPPER_TICK < t {
+        return Err(refusal(13, 0));
+    }
+    Ok(task(list, n).write(forward(list, 0, n, first.earliest_after(t))) - t)
+}
+
+pub fn age(list: &[u64], places: usize, z: u64) -> Result<u64, Refusal> {
+    check(list, places)?;
+    let n = places - 1;
+    let last = task(list, n);
+    if z < last.write(forward(list, 0, n, 0)) {
+        return Err(refusal(12, 0));
+    }
+    if UPPER_TICK < z {
+        return Err(refusal(13, 0));
+    }
+    let k = last.latest_by(z).unwrap_or(0);
+    Ok(z - task(list, 0).read(backward(list, 0, n, k).unwrap_or(0)))
+}
+
+#[derive(Clone, Copy)]
+struct Partition {
+    start: u64,
+    end: u64,
+}
+
+fn of_job(list: &[u64], places: usize, p: usize, m: u64) -> Partition {
+    let n = places - 1;
+    let start = task(list, 0).read(backward(list, 0, p, m).unwrap_or(0));
+    let end = task(list, n).write(forward(list, p, n, m + 1));
+    Partition { start, end }
+}
+
+fn store(list: &mut [u64], at: usize, value: u64) {
+    if at < list.len() {
+        list[at] = value;
+    }
+}
+
+pub fn make_table(list: &[u64], places: usize, p: usize, starts: &mut [u64], latencies: &mut [u64]) -> Made {
+    let h = match check(list, places) {
+        Err(r) => return Made::Refused(r),
+        Ok(h) => h,
+    };
+    if p < 1 || places < p {
+        return Made::Refused(refusal(9, 0));
+    }
+    if starts.len() != latencies.len() {
+        return Made::Refused(refusal(10, 0));
+    }
+    let q = p - 1;
+    let jobs = warm_jobs(list, places);
+    let tick = task(list, 0).read(jobs[0]);
+    let n = h / task(list, q).period;
+    let mut walked = 0;
+    let mut anchors = 0;
+    let mut last = 0;
+    let mut here = of_job(list, places, q, jobs[q]);
+    while walked < n {
+        let following = of_job(list, places, q, jobs[q] + walked + 1);
+        if following.start != here.start {
+            if here.end != last {
+                store(starts, anchors, here.start);
+                store(latencies, anchors, here.end - here.start);
+                anchors += 1;
+            }
+            last = here.end;
+        }
+        here = following;
+        walked += 1;
+    }
+    let figures = Figures { anchors, tick, hyperperiod: h, walked };
+    if anchors <= starts.len() {
+        Made::Whole(figures)
+    } else {
+        Made::Short(figures)
+    }
+}
+
+fn missed(list: &[u64], places: usize, b: u64, j: u64) -> u64 {
+    let n = places - 1;
+    let end = task(list, n).write(forward(list, 0, n, j));
+    (b < end - task(list, 0).read(j)) as u64
+}
+
+pub fn most_misses(list: &[u64], places: usize, b: u64, k: u64) -> Result<(u64, u64), Refusal> {
+    let h = check(list, places)?;
+    if k < 1 || 100 < k {
+        return Err(refusal(15, 0));
+    }
+    let w = warm_jobs(list, places)[0];
+    let (from, last) = (w + 1, w + h / task(list, 0).period);
+    let n = k as usize;
+    let mut flags = [0u64; 100];
+    let mut count = 0;
+    for i in 0..n {
+        flags[i] = missed(list, places, b, from + i as u64);
+        count += flags[i];
+    }
+    let mut best = (count, from);
+    let mut i = 0;
+    for s in from..last {
+        let new = missed(list, places, b, s + k);
+        count = count + new - flags[i];
+        flags[i] = new;
+        i = if i + 1 < n { i + 1 } else { 0 };
+        if best.0 < count {
+            best = (count, s + 1);
+        }
+    }
+    Ok(best)
+}

@@ -1,0 +1,196 @@
+//! The programs that are measured, under one interface: the one of the calls for C.
+use crate::enumerate;
+use forms::{by_value, flat};
+use plain::maker::Made;
+use plain::task::Task;
+use plain::Refusal;
+
+pub const REFUSED: u64 = 1 << 32;
+
+/// A chain in the two ways in which the programs are lent it.
+pub struct Chain {
+    pub tasks: Vec<Task>,
+    pub flat: Vec<u64>,
+}
+
+pub struct Table {
+    pub starts: Vec<u64>,
+    pub latencies: Vec<u64>,
+    pub h: u64,
+}
+
+pub trait Program {
+    fn make(chain: &Chain, p: usize, starts: &mut [u64], latencies: &mut [u64], figures: &mut [u64; 4]) -> u64;
+    fn read(table: &Table, t: u64) -> u64;
+    fn delay(chain: &Chain, t: u64, out: &mut u64) -> u64;
+    fn age(chain: &Chain, z: u64, out: &mut u64) -> u64;
+    fn windows(chain: &Chain, b: u64, k: u64, out: &mut [u64; 2]) -> u64;
+}
+
+fn give_table(made: Made, figures: &mut [u64; 4]) -> u64 {
+    let (f, code) = match made {
+        Made::Whole(f) => (f, 0),
+        Made::Short(f) => (f, 11),
+        Made::Refused(r) => {
+            *figures = [0; 4];
+            return r.code();
+        }
+    };
+    *figures = [f.anchors as u64, f.tick, f.hyperperiod, f.walked];
+    code
+}
+
+fn give<T: Default>(answer: Result<T, Refusal>, out: &mut T) -> u64 {
+    match answer {
+        Ok(value) => {
+            *out = value;
+            0
+        }
+        Err(r) => {
+            *out = T::default();
+            r.code()
+        }
+    }
+}
+
+fn give_pair(answer: Result<(u64, u64), Refusal>, out: &mut [u64; 2]) -> u64 {
+    give(answer.map(|(a, b)| [a, b]), out)
+}
+
+/// The archives of the proved crates, as include/meshorchard.h declares them.
+pub struct Proved;
+
+mod c {
+    extern "C" {
+        pub fn mo_read_table(starts: *const u64, n: usize, latencies: *const u64, m: usize, g: u64, h: u64, t: u64) -> u64;
+        pub fn mo_delay(tasks: *const u64, length: usize, places: usize, t: u64, delay: *mut u64) -> u64;
+        pub fn mo_age(tasks: *const u64, length: usize, places: usize, z: u64, age: *mut u64) -> u64;
+        pub fn mo_make_table(tasks: *const u64, length: usize, places: usize, p: usize, starts: *mut u64, n: usize, latencies: *mut u64, m: usize, figures: *mut u64) -> u64;
+        pub fn mo_windows(tasks: *const u64, length: usize, places: usize, b: u64, k: u64, misses: *mut u64, first: *mut u64) -> u64;
+    }
+}
+
+// Each pointer comes from a slice or a reference that lives through the call, with its own length beside it; the lists written to are apart from all else.
+impl Program for Proved {
+    fn make(chain: &Chain, p: usize, starts: &mut [u64], latencies: &mut [u64], figures: &mut [u64; 4]) -> u64 {
+        let (tasks, places) = (&chain.flat, chain.tasks.len());
+        unsafe { c::mo_make_table(tasks.as_ptr(), tasks.len(), places, p, starts.as_mut_ptr(), starts.len(), latencies.as_mut_ptr(), latencies.len(), figures.as_mut_ptr()) }
+    }
+
+    fn read(table: &Table, t: u64) -> u64 {
+        let (starts, latencies) = (&table.starts, &table.latencies);
+        unsafe { c::mo_read_table(starts.as_ptr(), starts.len(), latencies.as_ptr(), latencies.len(), starts.len() as u64, table.h, t) }
+    }
+
+    fn delay(chain: &Chain, t: u64, out: &mut u64) -> u64 {
+        unsafe { c::mo_delay(chain.flat.as_ptr(), chain.flat.len(), chain.tasks.len(), t, out) }
+    }
+
+    fn age(chain: &Chain, z: u64, out: &mut u64) -> u64 {
+        unsafe { c::mo_age(chain.flat.as_ptr(), chain.flat.len(), chain.tasks.len(), z, out) }
+    }
+
+    fn windows(chain: &Chain, b: u64, k: u64, out: &mut [u64; 2]) -> u64 {
+        let [misses, first] = out;
+        unsafe { c::mo_windows(chain.flat.as_ptr(), chain.flat.len(), chain.tasks.len(), b, k, misses, first) }
+    }
+}
+
+pub struct Plain;
+
+impl Program for Plain {
+    fn make(chain: &Chain, p: usize, starts: &mut [u64], latencies: &mut [u64], figures: &mut [u64; 4]) -> u64 {
+        give_table(plain::maker::make_table(&chain.tasks, p, starts, latencies), figures)
+    }
+
+    fn read(table: &Table, t: u64) -> u64 {
+        plain::table::read_at(&table.starts, &table.latencies, table.starts.len(), table.h, t).unwrap_or_else(|r| REFUSED + r.number)
+    }
+
+    fn delay(chain: &Chain, t: u64, out: &mut u64) -> u64 {
+        give(plain::timing::delay(&chain.tasks, t), out)
+    }
+
+    fn age(chain: &Chain, z: u64, out: &mut u64) -> u64 {
+        give(plain::timing::age(&chain.tasks, z), out)
+    }
+
+    fn windows(chain: &Chain, b: u64, k: u64, out: &mut [u64; 2]) -> u64 {
+        give_pair(plain::windows::most_misses(&chain.tasks, b, k), out)
+    }
+}
+
+pub struct Enumerating;
+
+impl Program for Enumerating {
+    fn make(chain: &Chain, p: usize, starts: &mut [u64], latencies: &mut [u64], figures: &mut [u64; 4]) -> u64 {
+        give_table(enumerate::make_table(&chain.tasks, p, starts, latencies), figures)
+    }
+
+    fn read(table: &Table, t: u64) -> u64 {
+        enumerate::read_at(&table.starts, &table.latencies, table.starts.len(), table.h, t).unwrap_or_else(|r| REFUSED + r.number)
+    }
+
+    fn delay(chain: &Chain, t: u64, out: &mut u64) -> u64 {
+        give(enumerate::delay(&chain.tasks, t), out)
+    }
+
+    fn age(chain: &Chain, z: u64, out: &mut u64) -> u64 {
+        give(enumerate::age(&chain.tasks, z), out)
+    }
+
+    fn windows(chain: &Chain, b: u64, k: u64, out: &mut [u64; 2]) -> u64 {
+        give_pair(enumerate::most_misses(&chain.tasks, b, k), out)
+    }
+}
+
+/// Plain Rust with the chain copied at each call; reading has no chain and is the plain program's.
+pub struct ByValue;
+
+impl Program for ByValue {
+    fn make(chain: &Chain, p: usize, starts: &mut [u64], latencies: &mut [u64], figures: &mut [u64; 4]) -> u64 {
+        let copied = by_value::chain_from(&chain.flat, chain.tasks.len());
+        give_table(by_value::make_table(copied, p, starts, latencies), figures)
+    }
+
+    fn read(table: &Table, t: u64) -> u64 {
+        Plain::read(table, t)
+    }
+
+    fn delay(chain: &Chain, t: u64, out: &mut u64) -> u64 {
+        give(by_value::delay(by_value::chain_from(&chain.flat, chain.tasks.len()), t), out)
+    }
+
+    fn age(chain: &Chain, z: u64, out: &mut u64) -> u64 {
+        give(by_value::age(by_value::chain_from(&chain.flat, chain.tasks.len()), z), out)
+    }
+
+    fn windows(chain: &Chain, b: u64, k: u64, out: &mut [u64; 2]) -> u64 {
+        give_pair(by_value::most_misses(by_value::chain_from(&chain.flat, chain.tasks.len()), b, k), out)
+    }
+}
+
+/// Plain Rust with the chain lent as a flat list.
+pub struct Flat;
+
+impl Program for Flat {
+    fn make(chain: &Chain, p: usize, starts: &mut [u64], latencies: &mut [u64], figures: &mut [u64; 4]) -> u64 {
+        give_table(flat::make_table(&chain.flat, chain.tasks.len(), p, starts, latencies), figures)
+    }
+
+    fn read(table: &Table, t: u64) -> u64 {
+        Plain::read(table, t)
+    }
+
+    fn delay(chain: &Chain, t: u64, out: &mut u64) -> u64 {
+        give(flat::delay(&chain.flat, chain.tasks.len(), t), out)
+    }
+
+    fn age(chain: &Chain, z: u64, out: &mut u64) -> u64 {
+        give(flat::age(&chain.flat, chain.tasks.len(), z), out)
+    }
+
+    fn windows(chain: &Chain, b: u64, k: u64, out: &mut [u64; 2]) -> u64 {
+        give_pair(flat::most_misses(&chain.flat, chain.tasks.len(), b, k), out)
+    }
+}

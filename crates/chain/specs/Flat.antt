@@ -1,0 +1,82 @@
+-- A chain's tasks as the flat list T, D, F, T, D, F, ..
+use Prim.Native.Nat.{ℕ, zero, suc, _+_, _-_, _*_, _/_, _≤_, _<_}
+use native.Mathlib.Omega.{arith}
+use mathlib.Core.Path.{_≡_, refl, sym, ap, _∙_}
+use mathlib.Core.List.{List, [], _∷_, _++_}
+use lib.ListN.{length, getD, take}
+use Rattle.task.specs.declared.Task.{Task}
+use Rattle.chain.specs.declared.Chain.{Chain}
+use Rattle.chain.specs.Chains.{tasksOf, at, lastPlace}
+
+-- The numbers of each element, one after the other.
+unfoldable pub flatOf : {A : Type 0} → (A → List ℕ) → List A → List ℕ
+flatOf f [] = []
+flatOf f (x ∷ l) = f x ++ flatOf f l
+
+abbrev pub taskFields : Task → List ℕ
+taskFields a = a .period ∷ a .duration ∷ a .phase ∷ []
+
+abbrev pub flatChain : List Task → List ℕ
+flatChain l = flatOf taskFields l
+
+-- The tasks of a flat list. One or two numbers left at its end are no task.
+unfoldable pub tasksIn : List ℕ → List Task
+tasksIn [] = []
+tasksIn (t ∷ []) = []
+tasksIn (t ∷ d ∷ []) = []
+tasksIn (t ∷ d ∷ f ∷ l) = record { period = t; duration = d; phase = f } ∷ tasksIn l
+
+-- ---- their number
+
+pub in-long : (l : List ℕ) → 3 * length (tasksIn l) ≤ length l
+unfolding tasksIn
+in-long [] = omega arith
+in-long (t ∷ []) = omega arith
+in-long (t ∷ d ∷ []) = omega arith
+in-long (t ∷ d ∷ f ∷ l) = omega (arith, in-long l)
+
+in-all : (l : List ℕ) → length l < 3 * length (tasksIn l) + 3
+unfolding tasksIn
+in-all [] = omega arith
+in-all (t ∷ []) = omega arith
+in-all (t ∷ d ∷ []) = omega arith
+in-all (t ∷ d ∷ f ∷ l) = omega (arith, in-all l)
+
+pub in-count : (l : List ℕ) → length l / 3 ≡ length (tasksIn l)
+in-count l = omega (arith, in-long l, in-all l)
+
+pub in-last : (l : List ℕ) → length l / 3 - 1 ≡ lastPlace (tasksIn l)
+in-last l = ap (λ (n : ℕ). n - 1) (in-count l)
+
+-- ---- each of them
+
+pub at-in : (l : List ℕ) (i : ℕ) → i < length (tasksIn l) → at (tasksIn l) i ≡ record { period = getD l (3 * i) 0; duration = getD l (3 * i + 1) 0; phase = getD l (3 * i + 2) 0 }
+unfolding tasksIn
+at-in [] i h = absurd (omega arith)
+at-in (t ∷ []) i h = absurd (omega arith)
+at-in (t ∷ d ∷ []) i h = absurd (omega arith)
+at-in (t ∷ d ∷ f ∷ l) zero h = refl
+at-in (t ∷ d ∷ f ∷ l) (suc i) h =
+    let a : 3 * suc i + 1 ≡ suc (suc (suc (3 * i + 1))) = omega arith in
+    let b : 3 * suc i + 2 ≡ suc (suc (suc (3 * i + 2))) = omega arith in
+    let e : 3 * suc i ≡ suc (suc (suc (3 * i))) = omega arith in
+    rw (a, b, e) (at-in l i (omega arith))
+
+-- ---- there and back
+
+in-flat : (l : List Task) → tasksIn (flatChain l) ≡ l
+unfolding tasksIn flatOf
+in-flat [] = refl
+in-flat (a ∷ l) = ap (λ (r : List Task). a ∷ r) (in-flat l)
+
+take-flat : (n : ℕ) (l : List Task) → take (3 * n) (flatChain l) ≡ flatChain (take n l)
+unfolding flatOf
+take-flat zero l = refl
+take-flat (suc n) [] = let e : 3 * suc n ≡ suc (suc (suc (3 * n))) = omega arith in rw e
+take-flat (suc n) (a ∷ l) =
+    let e : 3 * suc n ≡ suc (suc (suc (3 * n))) = omega arith in
+    rw e (ap (λ (r : List ℕ). a .period ∷ a .duration ∷ a .phase ∷ r) (take-flat n l))
+
+-- the front of a chain's flat list holds the tasks at its places
+pub flat-front : (c : Chain) → tasksIn (take (3 * c .places) (flatChain (c .tasks))) ≡ tasksOf c
+flat-front c = ap tasksIn (take-flat (c .places) (c .tasks)) ∙ in-flat (tasksOf c)

@@ -1,0 +1,88 @@
+-- What making says is what the text says, and what a completed table is written from.
+use Prim.Native.Nat.{ℕ, _-_, _≤_}
+use native.Mathlib.Omega.{arith}
+use mathlib.Core.Path.{_≡_, refl, sym, ap, _∙_, subst}
+use mathlib.Core.Bool.{true}
+use mathlib.Core.List.{List}
+use lib.ListN.{length}
+use lib.Seq.{sets}
+use borrow.Author.Tests.{eq-eqb, ne-eqb}
+use Rattle.refusal.specs.declared.Refusal.{Refusal}
+use Rattle.refusal.specs.Refusals.{refusal}
+use Rattle.chain.specs.declared.Chain.{Chain}
+use Rattle.chain.specs.Chains.{tasksOf}
+use Rattle.schedule.specs.Schedules.{chainOf}
+use Rattle.file_reader.specs.declared.FileRead.{FileRead}
+use Rattle.table.specs.Anchors.{Anchor, anchors}
+use Rattle.table.specs.WellFormed.{wellFormed}
+use Rattle.maker.specs.declared.Figures.{Figures}
+use Rattle.maker.specs.declared.Made.{Made}
+use Rattle.maker.specs.declared.Made.the-variants.{Whole, Short, Refused}
+use Rattle.maker.specs.Making.{madeOf, writtenAfter, writtenOf, Makes}
+use Rattle.maker.proofs.Lists.{sets-overlay}
+use Rattle.agreement.specs.MadeTable.{Completed, done, starts-length, latencies-length, made-anchors, made-well-formed}
+use Rattle.text.specs.Text.{Puts}
+use Rattle.report.specs.Report.{longestPlace, refusedText, tableText, madeText, chainText, fileText, reportOf, longestText, Reports}
+
+module _ (c : Chain) (twelve : length (c .tasks) ≡ 12) (p : ℕ) (s v s′ v′ : List ℕ) (m : Made) (long : length s ≡ 1024) (wide : length v ≡ 1024)
+    (place : p ≡ longestPlace (tasksOf c)) (makes : Makes c p s v s′ v′ m) where
+  -- anything of the place and the lengths
+  here : {A : Type 0} (f : ℕ → ℕ → ℕ → A) → f p (length s) (length v) ≡ f (longestPlace (tasksOf c)) 1024 1024
+  here f = ap (λ (n : ℕ). f n (length s) (length v)) place ∙ ap (λ (n : ℕ). f (longestPlace (tasksOf c)) n (length v)) long ∙ ap (f (longestPlace (tasksOf c)) 1024) wide
+
+  answer : m ≡ madeOf c (longestPlace (tasksOf c)) 1024 1024
+  answer = makes .answer ∙ here (madeOf c)
+
+  says : (k : Made) (l : List Anchor) → m ≡ k → l ≡ writtenOf c (longestPlace (tasksOf c)) 1024 1024 → madeText k l ≡ chainText 1024 c
+  unfolding chainText
+  says k l e f = ap (λ (x : Made). madeText x l) (sym e ∙ answer) ∙ ap (madeText (madeOf c (longestPlace (tasksOf c)) 1024 1024)) f
+
+  pub chain-refused : (r : Refusal) (k o : List ℕ) (to : ℕ) → m ≡ Refused r → Puts (refusedText r) 0 k o to → Puts (chainText 1024 c) 0 k o to
+  unfolding madeText
+  chain-refused r k o to e q = subst (λ (x : List ℕ). Puts x 0 k o to) (says (Refused r) (writtenOf c (longestPlace (tasksOf c)) 1024 1024) e refl) q
+
+  pub chain-short : (f : Figures) (k o : List ℕ) (to : ℕ) → m ≡ Short f → Puts (refusedText (refusal 11 0)) 0 k o to → Puts (chainText 1024 c) 0 k o to
+  unfolding madeText
+  chain-short f k o to e q = subst (λ (x : List ℕ). Puts x 0 k o to) (says (Short f) (writtenOf c (longestPlace (tasksOf c)) 1024 1024) e refl) q
+
+  module _ (f : Figures) (whole : m ≡ Whole f) where
+    made : Makes c p s v s′ v′ (Whole f)
+    made = rw whole at makes
+
+    complete : Completed c p (length s) (length v) f
+    complete = done c twelve p s v s′ v′ f made
+
+    pub well-made : (wellFormed s′ v′ (f .anchors) (f .hyperperiod) ≡ true) × (length s′ ≡ 1024) × (length v′ ≡ 1024) × (f .anchors ≤ 1024)
+    well-made = (
+      made-well-formed c twelve p s v s′ v′ f made,
+      starts-length c twelve p s v s′ v′ f made ∙ long,
+      latencies-length c twelve p s v s′ v′ f made ∙ wide,
+      omega (arith, complete .fit),
+    )
+
+    written : anchors s′ v′ (f .anchors) ≡ writtenOf c (longestPlace (tasksOf c)) 1024 1024
+    unfolding writtenAfter
+    written = made-anchors c twelve p s v s′ v′ f made ∙ sym (ap (writtenAfter c p) (complete .says) ∙ complete .cut) ∙ here (writtenOf c)
+
+    pub chain-whole : (k o : List ℕ) (to : ℕ) → Puts (tableText f (anchors s′ v′ (f .anchors))) 0 k o to → Puts (chainText 1024 c) 0 k o to
+    unfolding madeText
+    chain-whole k o to q = subst (λ (x : List ℕ). Puts x 0 k o to) (says (Whole f) (anchors s′ v′ (f .anchors)) whole written) q
+
+-- ---- the file
+
+module _ (r : FileRead) where
+  pub file-refused : (r .refusal .number ≡ 0 → ⊥) → refusedText (r .refusal) ≡ fileText r
+  unfolding fileText
+  file-refused h = rw (ne-eqb (r .refusal .number) 0 h)
+
+  pub file-read : r .refusal .number ≡ 0 → chainText 1024 (chainOf (r .schedule)) ≡ fileText r
+  unfolding fileText
+  file-read h = rw (eq-eqb (r .refusal .number) 0 h)
+
+-- a text from the front, as the answer and the lent bytes show it
+pub reported : (bytes text old new : List ℕ) (n : ℕ) → text ≡ reportOf bytes → Puts text 0 old new n → n ≤ longestText → Reports bytes old new n
+reported bytes text old new n e p h = record {
+  answers = p .ends ∙ (omega arith) ∙ ap length e;
+  leaves = p .leaves ∙ ap (sets old 0) e ∙ sets-overlay (reportOf bytes) old;
+  short = h;
+}

@@ -1,0 +1,4 @@
+pub mod WellFigures
+pub mod Lines
+pub mod Longest
+pub mod Exits

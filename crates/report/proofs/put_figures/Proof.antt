@@ -1,0 +1,57 @@
+use native.Mathlib.Omega.{arith}
+use Rattle.report.proofs.Lines.{figures-lines}
+use borrow.Author.Needs.{needs}
+use Rattle.report.proofs.put_figures.Statement.{statement}
+use Rattle.report.proofs.put_figures.Tie as tie
+
+slice-aggregate-put-line : tie.Need-slice-aggregate-put-line
+slice-aggregate-put-line c = search needs
+
+greatest-of-requires : tie.Need-greatest-of-requires
+greatest-of-requires c κs = search needs
+
+put-line-requires : tie.Need-put-line-requires
+put-line-requires c κs = search needs
+
+slice-aggregate-put-line-2 : tie.Need-slice-aggregate-put-line-2
+slice-aggregate-put-line-2 c = search needs
+
+low-of-requires : tie.Need-low-of-requires
+low-of-requires c κs = search needs
+
+put-line-requires-2 : tie.Need-put-line-requires-2
+put-line-requires-2 c κs = search needs
+
+slice-aggregate-put-pair : tie.Need-slice-aggregate-put-pair
+slice-aggregate-put-pair c = search needs
+
+sum-of-requires : tie.Need-sum-of-requires
+sum-of-requires c κs = search needs
+
+put-pair-requires : tie.Need-put-pair-requires
+put-pair-requires c κs = search needs
+
+same-length : tie.Need-same-length
+same-length c = search needs
+
+returns : tie.Need-returns
+returns c = (
+  figures-lines _ _ _ _ _ _ _ _ _ _ _ _ _ (c .before .before .before .before .before .before .before .before .before .before .before .before .before .before .before .greatest-of .ensures) (c .before .before .before .before .before .before .before .before .before .low-of .ensures) (c .before .before .before .sum-of .ensures) (c .before .before .before .before .before .before .before .before .before .before .before .before .before .before .put-line .ensures .0) (c .before .before .before .before .before .before .before .before .put-line2 .ensures .0) (c .before .before .put-pair .ensures .0),
+  omega arith,
+)
+
+pub put-figures-spec : {M : Type 1} → statement M
+put-figures-spec =
+    tie.close
+    (tie.spec
+    slice-aggregate-put-line
+    greatest-of-requires
+    put-line-requires
+    slice-aggregate-put-line-2
+    low-of-requires
+    put-line-requires-2
+    slice-aggregate-put-pair
+    sum-of-requires
+    put-pair-requires
+    same-length
+    returns)

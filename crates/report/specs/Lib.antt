@@ -1,0 +1,5 @@
+pub mod Report
+pub mod LongestPlace
+pub mod Widths
+pub mod Lent
+pub mod Survey

@@ -1,0 +1,81 @@
+-- Document 01, program `chainreport`: the whole text for the bytes of a schedule file.
+use Prim.Native.Nat.{ℕ, _+_, _≤_, max}
+use mathlib.Core.Path.{_≡_}
+use mathlib.Core.Bool.{cond}
+use mathlib.Core.List.{List, [], _∷_, _++_, map}
+use lib.Dec.{eqb}
+use lib.ListN.{length}
+use Rattle.refusal.specs.declared.Refusal.{Refusal}
+use Rattle.refusal.specs.Refusals.{refusal}
+use Rattle.task.specs.declared.Task.{Task}
+use Rattle.chain.specs.declared.Chain.{Chain}
+use Rattle.chain.specs.Chains.{tasksOf}
+use Rattle.schedule.specs.Schedules.{positionOf, chainOf}
+use Rattle.file_reader.specs.declared.FileRead.{FileRead}
+use Rattle.file_reader.specs.Reading.{readFile}
+use Rattle.table.specs.Anchors.{Anchor}
+use Rattle.table.specs.Figures.{greatest, low}
+use Rattle.figures.specs.Figures.{delaySum}
+use Rattle.maker.specs.declared.Figures.{Figures}
+use Rattle.maker.specs.declared.Made.{Made}
+use Rattle.maker.specs.declared.Made.the-variants.{Whole, Short, Refused}
+use Rattle.maker.specs.Making.{madeOf, writtenOf, overlay}
+use Rattle.text.specs.Text.{ascii, line}
+
+-- The longest period of a chain,
+unfoldable pub longestPeriod : List Task → ℕ
+longestPeriod [] = 0
+longestPeriod (t ∷ l) = max (t .period) (longestPeriod l)
+
+-- and its place, counted from 1; the lowest place among equals.
+unfoldable pub longestPlace : List Task → ℕ
+longestPlace l = positionOf (longestPeriod l) (map (λ (t : Task). t .period) l) + 1
+
+-- A refusal prints one line: number and place.
+unfoldable pub refusedText : Refusal → List ℕ
+refusedText r = line (ascii "refused") (r .number ∷ r .place ∷ [])
+
+-- Each anchor: start, latency.
+unfoldable pub anchorLines : List Anchor → List ℕ
+anchorLines [] = []
+anchorLines (a ∷ l) = line (ascii "a") (a .start ∷ a .latency ∷ []) ++ anchorLines l
+
+-- Warm-up tick, H, g;
+unfoldable pub headText : Figures → List ℕ
+headText f = line (ascii "warm") (f .tick .0 ∷ []) ++ (line (ascii "hyper") (f .hyperperiod ∷ []) ++ line (ascii "anchors") (f .anchors ∷ []))
+
+-- greatest, low, mean;
+unfoldable pub figuresText : ℕ → List Anchor → List ℕ
+figuresText H l = line (ascii "max") (greatest l ∷ []) ++ (line (ascii "low") (low H l ∷ []) ++ line (ascii "mean") (delaySum H l ∷ H ∷ []))
+
+-- these around the anchors, and walked.
+unfoldable pub tableText : Figures → List Anchor → List ℕ
+tableText f l = headText f ++ (anchorLines l ++ (figuresText (f .hyperperiod) l ++ line (ascii "walked") (f .walked ∷ [])))
+
+-- What making answered. Where the slots do not hold all anchors the one line is that of 11, which has no place.
+unfoldable pub madeText : Made → List Anchor → List ℕ
+madeText (Whole f) l = tableText f l
+madeText (Short f) l = refusedText (refusal 11 0)
+madeText (Refused r) l = refusedText r
+
+-- A chain is cut at the longest period and made with so many slots.
+unfoldable pub chainText : ℕ → Chain → List ℕ
+chainText slots c = madeText (madeOf c (longestPlace (tasksOf c)) slots slots) (writtenOf c (longestPlace (tasksOf c)) slots slots)
+
+-- A file that is read has the text of its chain, made with 1,024 slots; else that of the refusal.
+unfoldable pub fileText : FileRead → List ℕ
+fileText r = cond (eqb (r .refusal .number) 0) (chainText 1024 (chainOf (r .schedule))) (refusedText (r .refusal))
+
+-- The whole text for the bytes of a file.
+abbrev pub reportOf : List ℕ → List ℕ
+reportOf bytes = fileText (readFile bytes)
+
+-- No text is longer: `report` promises it. Each of 1,024 lines of an anchor has at most 22 bytes.
+abbrev pub longestText : ℕ
+longestText = 23000
+
+-- What `report` answers and leaves: the answer is the text's length; the lent bytes hold the text, as much of it as fits, and past it what was there.
+pub record Reports (bytes old new : List ℕ) (answer : ℕ) : Type 0 where
+  pub answers : answer ≡ length (reportOf bytes)
+  pub leaves : new ≡ overlay (reportOf bytes) old
+  pub short : answer ≤ longestText

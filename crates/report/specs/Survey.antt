@@ -1,0 +1,36 @@
+-- Document 01, "Survey examples": the report of chain A's file, computed from the definitions.
+use Prim.Native.Nat.{ℕ}
+use mathlib.Core.Path.{_≡_, refl}
+use mathlib.Core.List.{List, [], _∷_}
+use Rattle.task.specs.Jobs.{withinLimits}
+use Rattle.task.specs.Links.{earliestFrom, latestBy, forwardLink, backwardLink}
+use Rattle.euclid.specs.Divisor.{euclid, gcdOf, lcmOf}
+use Rattle.little_endian.specs.LittleEndian.{valueOf, numberAt}
+use Rattle.chain.specs.Chains.{forwardBy, onLatest, backwardBy}
+use Rattle.chain.specs.Checks.{firstFault, hyperVerdict, verdictOf}
+use Rattle.chain.specs.Hyperperiod.{hyperFrom}
+use Rattle.schedule.specs.Schedules.{taskRule, positionOf, known, taskNumbered, padded}
+use Rattle.file_reader.specs.Reading.{numbersFrom, allKnown, taskRecord, chainRecord, endRecord, kindRecord, recordOf, afterRecord, readFrom}
+use Rattle.timing.specs.WarmUp.{leastFrom, warmLast, warmAt, warmTick}
+use Rattle.partition.specs.Lists.{rangeFrom, keep, fresh, dropRepeats}
+use Rattle.partition.specs.Partitions.{startOf, endOf, keeps, anchorsFrom}
+use Rattle.table.specs.Anchors.{anchors}
+use Rattle.table.specs.Reading.{lastAt, delayAt}
+use Rattle.table.specs.Figures.{greatest, lowTo, low}
+use Rattle.figures.specs.Ticks.{total}
+use Rattle.figures.specs.Figures.{delaySum}
+use Rattle.maker.specs.Making.{judged, madeAfter, writtenAfter}
+use Rattle.text.specs.Text.{ascii, lastDigits, decimal, fields, line}
+use Rattle.report.specs.Report.{longestPeriod, longestPlace, anchorLines, headText, figuresText, tableText, madeText, chainText, fileText, reportOf}
+
+-- Chain A, tasks 1 and 2 in a file of 48 bytes.
+abbrev pub fileA : List ℕ
+fileA =
+    18 ∷ 0 ∷ 1 ∷ 0 ∷ 1 ∷ 0 ∷ 4 ∷ 0 ∷ 0 ∷ 0 ∷ 4 ∷ 0 ∷ 0 ∷ 0 ∷ 0 ∷ 0 ∷ 0 ∷ 0
+    ∷ 18 ∷ 0 ∷ 1 ∷ 0 ∷ 2 ∷ 0 ∷ 6 ∷ 0 ∷ 0 ∷ 0 ∷ 6 ∷ 0 ∷ 0 ∷ 0 ∷ 0 ∷ 0 ∷ 0 ∷ 0
+    ∷ 8 ∷ 0 ∷ 2 ∷ 0 ∷ 1 ∷ 0 ∷ 2 ∷ 0
+    ∷ 4 ∷ 0 ∷ 3 ∷ 0 ∷ []
+
+pub report-a : reportOf fileA ≡ ascii "warm 0\nhyper 12\nanchors 2\na 0 18\na 8 16\nmax 18\nlow 10\nmean 174 12\nwalked 2\n"
+unfolding withinLimits earliestFrom latestBy forwardLink backwardLink euclid gcdOf lcmOf valueOf numberAt forwardBy onLatest backwardBy firstFault hyperVerdict verdictOf hyperFrom taskRule positionOf known taskNumbered padded numbersFrom allKnown taskRecord chainRecord endRecord kindRecord recordOf afterRecord readFrom leastFrom warmLast warmAt warmTick rangeFrom keep fresh dropRepeats startOf endOf keeps anchorsFrom anchors lastAt delayAt greatest lowTo low total delaySum judged madeAfter writtenAfter lastDigits decimal fields line longestPeriod longestPlace anchorLines headText figuresText tableText madeText chainText fileText
+report-a = refl

@@ -1,0 +1,177 @@
+-- Document 01, "Survey examples": A1 to A8, B, C, D and E as one computed list with one conclusion. Every row is computed from the definitions that the
+-- calls' contracts cite; a call's answer is turned into plain numbers: of a refusal its number and its place, of a success 0 and its values.
+use Prim.Native.Nat.{ℕ, _+_}
+use mathlib.Core.Path.{_≡_, refl}
+use mathlib.Core.Bool.{not, cond}
+use mathlib.Core.List.{List, [], _∷_, _++_, map}
+use lib.Dec.{eqb, leb, ltb}
+use lib.ListN.{length, take}
+use Rattle.task.specs.declared.Task.{Task}
+use Rattle.task.specs.declared.Job.{Job}
+use Rattle.task.specs.Jobs.{withinLimits}
+use Rattle.task.specs.Links.{earliestFrom, latestBy, forwardLink, backwardLink}
+use Rattle.euclid.specs.Divisor.{euclid, gcdOf, lcmOf}
+use Rattle.chain.specs.declared.Chain.{Chain}
+use Rattle.chain.specs.declared.Verdict.{Verdict}
+use Rattle.chain.specs.declared.Verdict.the-variants as verdict
+use Rattle.chain.specs.Chains.{zeroTask, forwardBy, onLatest, backwardBy}
+use Rattle.chain.specs.Hyperperiod.{hyperFrom}
+use Rattle.chain.specs.Checks.{firstFault, hyperVerdict, verdictOf}
+use Rattle.timing.specs.declared.WarmUp.{WarmUp}
+use Rattle.timing.specs.declared.Span.{Span}
+use Rattle.timing.specs.declared.Span.the-variants as span
+use Rattle.timing.specs.WarmUp.{leastFrom, warmLast, warmAt, warmTick}
+use Rattle.timing.specs.Delay.{delayAt, firstAged, ageAt}
+use Rattle.timing.specs.Answers.{entries, warmUpAfter, warmUpOf, spanAfter, delayOf, ageOf}
+use Rattle.table.specs.Anchors.{anchors}
+use Rattle.table.specs.WellFormed.{spaced, wellFormed}
+use Rattle.table.specs.Reading as read
+use Rattle.table.specs.declared.Reading.{Reading}
+use Rattle.table.specs.declared.Reading.the-variants as reading
+use Rattle.table.specs.Figures.{greatest, lowTo, low}
+use Rattle.figures.specs.declared.Greatest.{Greatest}
+use Rattle.figures.specs.declared.Greatest.the-variants as most
+use Rattle.figures.specs.declared.Low.{Low}
+use Rattle.figures.specs.declared.Low.the-variants as least
+use Rattle.figures.specs.declared.Mean.{Mean}
+use Rattle.figures.specs.declared.Mean.the-variants as mean
+use Rattle.figures.specs.declared.Exceedance.{Exceedance}
+use Rattle.figures.specs.declared.Exceedance.the-variants as run
+use Rattle.figures.specs.Ticks.{total, everyAbove, longestRun, ticks}
+use Rattle.figures.specs.Figures.{delaySum, exceedance, greatestOf, lowOf, meanOf, exceedanceOf}
+use Rattle.partition.specs.Lists.{rangeFrom, keep, fresh, dropRepeats}
+use Rattle.partition.specs.Partitions.{startOf, endOf, keeps, anchorsFrom}
+use Rattle.maker.specs.Making.{judged, madeAfter, madeOf, writtenAfter, writtenOf, startsOf, latenciesOf, told}
+use Rattle.windows.specs.Windows.{spanOf, misses, missesIn, largest, windowOf, mostMisses}
+
+-- ---- the chains
+
+abbrev task : ℕ → ℕ → ℕ → Task
+task t d f = record { period = t; duration = d; phase = f }
+
+-- A chain has room for twelve tasks; entries past its places are no part of it.
+abbrev chainOf : List Task → Chain
+chainOf l = record { tasks = l; places = length l }
+
+abbrev A : Chain
+A = chainOf (task 4 4 0 ∷ task 6 6 0 ∷ [])
+
+abbrev B : Chain
+B = chainOf (task 10 3 5 ∷ [])
+
+abbrev C : Chain
+C = chainOf (task 5 5 0 ∷ task 5 5 0 ∷ [])
+
+abbrev D : Chain
+D = chainOf (task 10 2 0 ∷ task 10 1 95 ∷ [])
+
+-- 768 and 78,125 have the least common multiple 60,000,000, and 769 and 78,125 have 60,078,125.
+abbrev E : ℕ → Chain
+E t = chainOf (task 78125 1 0 ∷ task t 1 0 ∷ [])
+
+-- ---- answers as plain numbers
+
+abbrev job : Job → ℕ
+job j = j .0
+
+abbrev warm : Chain → List ℕ
+warm c = let w : WarmUp = warmUpOf c in w .refusal .number ∷ w .hyperperiod ∷ w .tick .0 ∷ map job (take (c .places) (w .jobs))
+
+abbrev ticksOf : Span → List ℕ
+ticksOf (span.Ticks n) = 0 ∷ n ∷ []
+ticksOf (span.Refused r) = r .number ∷ r .place ∷ []
+
+-- Starts, then latencies, of the table cut at p, in lists of three entries.
+abbrev starts : Chain → ℕ → List ℕ
+starts c p = startsOf (writtenOf c p 3 3)
+
+abbrev latencies : Chain → ℕ → List ℕ
+latencies c p = latenciesOf (writtenOf c p 3 3)
+
+abbrev walked : Chain → ℕ → ℕ
+walked c p = told (madeOf c p 3 3) .walked
+
+abbrev readOf : Reading → List ℕ
+readOf (reading.Delay n) = 0 ∷ n ∷ []
+readOf (reading.Refused r) = r .number ∷ r .place ∷ []
+
+abbrev greatestIs : Greatest → List ℕ
+greatestIs (most.Latency n) = 0 ∷ n ∷ []
+greatestIs (most.Refused r) = r .number ∷ r .place ∷ []
+
+abbrev lowIs : Low → List ℕ
+lowIs (least.Limit n) = 0 ∷ n ∷ []
+lowIs (least.Refused r) = r .number ∷ r .place ∷ []
+
+abbrev meanIs : Mean → List ℕ
+meanIs (mean.Sum s h) = 0 ∷ s ∷ h ∷ []
+meanIs (mean.Refused r) = r .number ∷ r .place ∷ []
+
+-- A run is 0 and its length, and `endless` is 1.
+abbrev runIs : Exceedance → List ℕ
+runIs (run.Run n) = 0 ∷ n ∷ []
+runIs run.Endless = 1 ∷ []
+runIs (run.Refused r) = r .number ∷ r .place ∷ []
+
+abbrev verdictIs : Verdict → List ℕ
+verdictIs (verdict.Accepted h) = 0 ∷ h ∷ []
+verdictIs (verdict.Refused r) = r .number ∷ r .place ∷ []
+
+-- ---- the list
+
+unfoldable pub computed : List (List ℕ)
+computed =
+    -- A1
+    warm A
+    -- A2, cut at 1 and at 2
+    ∷ starts A 1 ∷ latencies A 1 ∷ starts A 2 ∷ latencies A 2
+    -- A3
+    ∷ (walked A 1 ∷ walked A 2 ∷ [])
+    -- A4, walked and read from the made table
+    ∷ ticksOf (delayOf A 0) ∷ ticksOf (delayOf A 7) ∷ ticksOf (delayOf A 8) ∷ ticksOf (delayOf A 11) ∷ ticksOf (delayOf A 12)
+    ∷ readOf (read.reading (starts A 2) (latencies A 2) 2 12 0) ∷ readOf (read.reading (starts A 2) (latencies A 2) 2 12 7) ∷ readOf (read.reading (starts A 2) (latencies A 2) 2 12 8)
+    ∷ readOf (read.reading (starts A 2) (latencies A 2) 2 12 11) ∷ readOf (read.reading (starts A 2) (latencies A 2) 2 12 12)
+    -- A5
+    ∷ ticksOf (ageOf A 12) ∷ ticksOf (ageOf A 17) ∷ ticksOf (ageOf A 18) ∷ ticksOf (ageOf A 23)
+    -- A6
+    ∷ lowIs (lowOf (starts A 2) (latencies A 2) 2 12) ∷ meanIs (meanOf (starts A 2) (latencies A 2) 2 12) ∷ greatestIs (greatestOf (starts A 2) (latencies A 2) 2 12)
+    -- A7
+    ∷ runIs (exceedanceOf (starts A 2) (latencies A 2) 2 12 18) ∷ runIs (exceedanceOf (starts A 2) (latencies A 2) 2 12 14)
+    ∷ runIs (exceedanceOf (starts A 2) (latencies A 2) 2 12 11) ∷ runIs (exceedanceOf (starts A 2) (latencies A 2) 2 12 10)
+    -- A8: the most misses, and those in the window from job 3
+    ∷ (mostMisses (A .tasks) 11 2 ∷ windowOf (A .tasks) 11 2 3 ∷ mostMisses (A .tasks) 14 3 ∷ [])
+    -- B
+    ∷ starts B 1 ∷ latencies B 1 ∷ ticksOf (delayOf B 4)
+    -- C
+    ∷ starts C 1 ∷ latencies C 1
+    -- D
+    ∷ warm D ∷ ticksOf (delayOf D 90) ∷ ticksOf (delayOf D 89)
+    -- E: no place, 13 places, H at its limit and above
+    ∷ verdictIs (verdictOf (record { tasks = []; places = 0 })) ∷ verdictIs (verdictOf (record { tasks = []; places = 13 }))
+    ∷ verdictIs (verdictOf (E 768)) ∷ verdictIs (verdictOf (E 769))
+    ∷ []
+
+-- What document 01 says, in the same order.
+abbrev pub said : List (List ℕ)
+said =
+    (0 ∷ 12 ∷ 0 ∷ 0 ∷ 1 ∷ [])
+    ∷ (0 ∷ 8 ∷ []) ∷ (18 ∷ 16 ∷ []) ∷ (0 ∷ 8 ∷ []) ∷ (18 ∷ 16 ∷ [])
+    ∷ (3 ∷ 2 ∷ [])
+    ∷ (0 ∷ 18 ∷ []) ∷ (0 ∷ 11 ∷ []) ∷ (0 ∷ 16 ∷ []) ∷ (0 ∷ 13 ∷ []) ∷ (0 ∷ 18 ∷ [])
+    ∷ (0 ∷ 18 ∷ []) ∷ (0 ∷ 11 ∷ []) ∷ (0 ∷ 16 ∷ [])
+    ∷ (0 ∷ 13 ∷ []) ∷ (0 ∷ 18 ∷ [])
+    ∷ (0 ∷ 12 ∷ []) ∷ (0 ∷ 17 ∷ []) ∷ (0 ∷ 10 ∷ []) ∷ (0 ∷ 15 ∷ [])
+    ∷ (0 ∷ 10 ∷ []) ∷ (0 ∷ 174 ∷ 12 ∷ []) ∷ (0 ∷ 18 ∷ [])
+    ∷ (0 ∷ 0 ∷ []) ∷ (0 ∷ 4 ∷ [])
+    ∷ (0 ∷ 11 ∷ []) ∷ (1 ∷ [])
+    ∷ (2 ∷ 2 ∷ 0 ∷ [])
+    ∷ (5 ∷ []) ∷ (13 ∷ []) ∷ (12 ∷ 0 ∷ [])
+    ∷ (0 ∷ []) ∷ (15 ∷ [])
+    ∷ (0 ∷ 10 ∷ 90 ∷ 9 ∷ 0 ∷ []) ∷ (0 ∷ 16 ∷ []) ∷ (12 ∷ 0 ∷ [])
+    ∷ (8 ∷ 0 ∷ []) ∷ (8 ∷ 0 ∷ [])
+    ∷ (0 ∷ 60000000 ∷ []) ∷ (7 ∷ 0 ∷ [])
+    ∷ []
+
+pub survey : computed ≡ said
+unfolding computed withinLimits earliestFrom latestBy forwardLink backwardLink euclid gcdOf lcmOf forwardBy onLatest backwardBy hyperFrom firstFault hyperVerdict verdictOf leastFrom warmLast warmAt warmTick delayAt firstAged ageAt entries warmUpAfter spanAfter anchors spaced wellFormed read.reading read.delayAt read.lastAt greatest lowTo low total everyAbove longestRun ticks delaySum exceedance greatestOf lowOf meanOf exceedanceOf rangeFrom keep fresh dropRepeats startOf endOf keeps anchorsFrom judged madeAfter writtenAfter spanOf misses missesIn largest mostMisses
+survey = refl

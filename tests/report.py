@@ -1,0 +1,230 @@
+"""The program chainreport against the reference's report, on fixed random, boundary and damaged files.
+
+    python3 tests/report.py [--count FACTOR] [--seed SEED]
+
+Runs the program once for each file. Each group prints its number of files; the last line is 'N passed, M failed', in groups.
+A disagreement is printed with its file.
+"""
+import argparse
+import glob
+import math
+import os
+import random
+import subprocess
+import sys
+import time
+
+HERE = os.path.dirname(os.path.abspath(__file__))
+TOP = os.path.dirname(HERE)
+sys.path[:0] = [HERE, os.path.join(TOP, "reference"), os.path.join(TOP, "examples")]
+import inputs
+import make
+import meshorchard_reference as reference
+
+PROGRAM = os.path.join(TOP, "target", "bin", "chainreport")
+# The reference walks every partition, and below this every tick.
+LONGEST = 20000
+GROUPS = []
+
+
+def group(function):
+    GROUPS.append(function)
+    return function
+
+
+def build():
+    """The program, proved and linked anew where a file of the crates is newer."""
+    sources = [os.path.join(TOP, "crates.txt")]
+    for folder, _, names in os.walk(os.path.join(TOP, "crates")):
+        sources += [os.path.join(folder, name) for name in names]
+    if not os.path.exists(PROGRAM) or os.path.getmtime(PROGRAM) < max(map(os.path.getmtime, sources)):
+        subprocess.run(["rt", "check", "chainreport"], check=True, cwd=TOP, stdout=subprocess.DEVNULL)
+
+
+def printed(data):
+    return subprocess.run([PROGRAM], input=data, stdout=subprocess.PIPE, check=True).stdout
+
+
+# ---- files
+
+def records(tasks, chain):
+    """The records of a schedule: numbered tasks (number, T, D, F), and the task numbers of the chain."""
+    return [make.task_record(*task) for task in tasks] + [make.chain_record(chain), make.END]
+
+
+def schedule(r, places):
+    """Numbered tasks and a chain of these places; other tasks stand between them, and a task may fill several places."""
+    kinds = list(dict.fromkeys(places)) + [inputs.edge_task(r) for _ in range(r.choice([0, 0, 1, 3]))]
+    r.shuffle(kinds)
+    numbers = sorted(r.sample(range(1, 65536), len(kinds)))
+    if r.random() < 0.2:
+        numbers[-1] = 65535
+    number_of = {task: number for number, task in zip(numbers, kinds)}
+    return [(number, *task) for number, task in zip(numbers, kinds)], [number_of[task] for task in places]
+
+
+def quick(places):
+    """Whether the reference is quick on this chain."""
+    periods = [t for t, _, _ in places]
+    return math.lcm(*periods) // max(periods) <= LONGEST
+
+
+def quick_chain(r):
+    while True:
+        places = [task for task in inputs.chain(r) if reference.task_within_rule(task)]
+        if places and quick(places):
+            return places
+
+
+def refusal(data):
+    """The refusal that the reference prints, or nothing."""
+    words = reference.report(data).split()
+    return tuple(map(int, words[1:])) if words[0] == b"refused" else None
+
+
+# ---- groups: each yields files
+
+@group
+def whole(r, factor):
+    """schedule files"""
+    for _ in range(int(900 * factor)):
+        yield b"".join(records(*schedule(r, quick_chain(r))))
+
+
+@group
+def hyperperiods(r, factor):
+    """hyperperiods at the limit of 60,000,000, just below and above"""
+    found = set()
+    for _ in range(int(150 * factor)):
+        places = inputs.near_limit(r)
+        if quick(places) or math.lcm(*[t for t, _, _ in places]) > 60000000:
+            found.add(math.lcm(*[t for t, _, _ in places]))
+            yield b"".join(records(*schedule(r, places)))
+    assert 60000000 in found and max(found) > 60000000
+
+
+@group
+def slots(r, factor):
+    """anchors around the 1,024 slots"""
+    found = set()
+    for _ in range(int(60 * factor)):
+        # Two periods with no common divisor have one anchor for each job of the longer one.
+        n = r.choice([1022, 1023, 1023, 1024, 1024, 1025, 1100, 3000])
+        places = [(n, r.randint(1, 50), r.randint(0, 50)), (n + 1, r.randint(1, 50), r.randint(0, 50))]
+        r.shuffle(places)
+        data = b"".join(records(*schedule(r, places)))
+        found.add(refusal(data))
+        yield data
+    assert found == {None, (11, 0)}
+
+
+@group
+def damaged(r, factor):
+    """damaged files"""
+    found = set()
+    for _ in range(int(1100 * factor)):
+        some = records(*schedule(r, quick_chain(r)))
+        for _ in range(r.choice([0, 1, 1, 2])):
+            at = r.randrange(len(some))
+            some[at:at + r.choice([0, 1])] = r.choice([[], [r.choice(some)], [make.END], [make.task_record(r.randint(0, 9), *inputs.edge_task(r))]])
+            some = some or [make.END]
+        data = bytearray(b"".join(some))
+        for _ in range(r.choice([0, 0, 1, 1, 2])):
+            data[r.randrange(len(data))] = r.choice([0, 1, 2, 3, 4, 18, 255, r.randrange(256)])
+        if r.random() < 0.25:
+            del data[r.randint(0, len(data)):]
+        if r.random() < 0.1:
+            data += bytes(r.randint(1, 5))
+        read = reference.read_file(bytes(data))
+        # A change may have made a chain on which the reference is slow.
+        if read[0] == "ok" and not quick(reference.chain_of_schedule(read[1], read[2])):
+            continue
+        found.add(refusal(bytes(data)))
+        yield bytes(data)
+    assert {1, 2, 3, 4, 5, 6} <= {one[0] for one in found if one}
+
+
+@group
+def many(r, factor):
+    """32 and 33 tasks, 0 to 13 places"""
+    for _ in range(int(40 * factor)):
+        for count, places in ((32, 12), (33, 12), (32, 13), (1, 1), (32, r.randint(0, 13))):
+            tasks = [(2 * i + 1, *inputs.small_task(r)) for i in range(count)]
+            chain = [r.choice(tasks)[0] for _ in range(places)]
+            yield b"".join(records(tasks, chain))
+
+
+@group
+def long(r, factor):
+    """inputs around and beyond 4,096 bytes"""
+    found = set()
+    for _ in range(int(15 * factor)):
+        start = b"".join(records(*schedule(r, quick_chain(r)))[:-1])
+        for end in (4095, 4096, 4097, r.randint(4098, 65535)):
+            # A record of an unknown kind that ends there: it is 3 where the first 4,096 bytes hold it, else 1.
+            size = end - len(start)
+            data = start + make.number(size, 2) + make.number(9, 2) + bytes(size - 4)
+            found.add(refusal(data)[0])
+            yield data
+            yield data + bytes(r.randint(1, 5000))
+        yield start + make.END + bytes(r.randint(1, 70000))
+    assert found == {1, 3}
+
+
+@group
+def short(r, factor):
+    """the empty input and other short ones"""
+    yield b""
+    for size in range(1, 50):
+        yield bytes(size)
+        yield bytes(r.randrange(256) for _ in range(size))
+
+
+@group
+def examples(r, factor):
+    """examples/: each file is what its description says, and its report what the program prints"""
+    names = sorted(glob.glob(os.path.join(TOP, "examples", "*.txt")))
+    assert len(names) >= 3
+    for name in names:
+        with open(name, encoding="ascii") as described:
+            data, report = make.described(described.read())
+        with open(name[:-4] + ".schedule", "rb") as kept:
+            assert kept.read() == data, name
+        assert report.encode() == reference.report(data), name
+        yield data
+
+
+def main():
+    parser = argparse.ArgumentParser()
+    parser.add_argument("--count", type=float, default=1.0, help="how much longer than usual")
+    parser.add_argument("--seed", type=int, default=20261115)
+    chosen = parser.parse_args()
+    build()
+    print(f"chainreport against the reference, seed {chosen.seed}, count {chosen.count}")
+    passed = failed = files = 0
+    for run in GROUPS:
+        began, made, wrong, broken = time.time(), 0, [], ""
+        try:
+            for data in run(random.Random(f"{chosen.seed} {run.__name__}"), chosen.count):
+                made += 1
+                mine, other = printed(data), reference.report(data)
+                if mine != other:
+                    wrong.append((data, mine, other))
+        except AssertionError as fault:
+            broken = f", not as it should be {fault}"
+        print(f"{run.__doc__.strip()}: {made} files, {len(wrong)} disagree{broken} ({time.time() - began:.1f} s)")
+        for data, mine, other in wrong[:3]:
+            print(f"  {data[:700].hex()} ({len(data)} bytes): the program prints {mine[:300]!r}, the reference {other[:300]!r}")
+        # A group that compares nothing shows nothing.
+        files += made
+        if wrong or broken or made == 0:
+            failed += 1
+        else:
+            passed += 1
+    print(f"{files} files")
+    print(f"{passed} passed, {failed} failed")
+    sys.exit(0 if failed == 0 else 1)
+
+
+if __name__ == "__main__":
+    main()
