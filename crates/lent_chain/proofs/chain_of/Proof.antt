@@ -1,7 +1,7 @@
 -- `lent_chain::chain_of` meets its contract: a walk of its MIR, by hand. A loop whose turn calls `task_at` and `with_task`; before it `at_most_twelve` and `empty_chain`.
 -- Assumes nothing.
-use mathlib.Core.Path.{_≡_, refl, sym, ap, _∙_, subst}
-use Prim.Native.Nat.{ℕ, suc, _+_, _-_, _≤_, _<_, _^_, min, zero-le}
+use mathlib.Core.Path.{_≡_, refl, ap, _∙_, subst}
+use Prim.Native.Nat.{ℕ, _+_, _-_, _≤_, _<_, _^_, min, zero-le}
 use native.Mathlib.Omega.{arith}
 use native.Mathlib.Nat.{min-le-left, min-le-right, le-antisymm}
 use native.Mathlib.Numerals.{add-one-dec}
