@@ -214,7 +214,7 @@ uint64_t mo_windows(const uint64_t *tasks, size_t tasks_length, size_t places, u
  *
  * The file is judged record by record, and refused at the first record with a fault. The place is that record's offset, but for a byte
  * after the end, where it is that byte's. For one record, the first that applies:
- *   MO_FILE_ENDS_EARLY       fewer than 4 bytes remain; so a file without an end is refused at its length;
+ *   MO_FILE_ENDS_EARLY       fewer than 4 bytes remain; so a file that stops after a record is refused at its length;
  *   MO_RECORD_LENGTH_WRONG   its length is below 4;
  *   MO_FILE_ENDS_EARLY       its length runs past the file;
  *   MO_RECORD_KIND_UNKNOWN   its kind is not 1, 2 or 3;

@@ -3,8 +3,7 @@
 use task::Job;
 use task::Task;
 use task::Tick;
-ghost use mathlib.Core.Path.{_≡_};
-ghost use Prim.Native.Nat.{_+_, _*_, _≤_, _<_};
+ghost use Prim.Native.Nat.{_+_, _≤_, _<_};
 ghost use lib.ListN.{length};
 ghost use Rattle.task.specs.Jobs.{writeOf};
 ghost use Rattle.chain.specs.Chains.{at};

@@ -1,5 +1,5 @@
 -- Demand 2: a schedule file has one spelling. Writing after reading returns the file (`write-after-read`), reading after writing returns the schedule
--- (`read-after-write`), and every file that reading accepts is the file of exactly one schedule (`one-schedule`).
+-- (`read-after-write`), and every file that reading accepts is the file of exactly one schedule: of the one that was read (`read-arrays`, `spelt-again`, `written-again`), and of no other (`one-schedule`).
 use Prim.Native.Nat.{ℕ, _+_, _≤_, _<_}
 use native.Mathlib.Omega.{arith}
 use mathlib.Core.Path.{_≡_, refl, sym, ap, _∙_}
@@ -15,7 +15,7 @@ use Rattle.little_endian.specs.LittleEndian.{Bytes}
 use Rattle.schedule.specs.declared.NumberedTask.{NumberedTask}
 use Rattle.schedule.specs.declared.Schedule.{Schedule}
 use Rattle.schedule.specs.Schedules.{numberOf, tasksIn, placesIn, padded, zeroNumbered, scheduleOf, emptySchedule}
-use Rattle.schedule.specs.Padding.{take-padded}
+use Rattle.schedule.specs.Padding.{take-padded, length-padded}
 use Rattle.file_reader.specs.declared.FileRead.{FileRead}
 use Rattle.file_reader.specs.Reading.{acceptedFile, readFile}
 use Rattle.file_writer.specs.declared.Written.{Written}
@@ -77,6 +77,18 @@ right-of s lent n a w =
 pub read-after-write : (s : Schedule) (lent n : ℕ) → Arrays s → writtenOf s lent ≡ written.Bytes n → readFile (fileBytes s) ≡ record { refusal = none; schedule = cleared s }
 read-after-write s lent n a h = read-of-file (tasksIn s) (placesIn s) (right-of s lent n a (accepted s lent n h))
 
+-- It is the same schedule: it has the same tasks, the same chain and the same counts.
+pub cleared-parts : (s : Schedule) (lent n : ℕ) → Arrays s → writtenOf s lent ≡ written.Bytes n
+    → (tasksIn (cleared s) ≡ tasksIn s) × (placesIn (cleared s) ≡ placesIn s) × (cleared s .count ≡ s .count) × (cleared s .places ≡ s .places)
+cleared-parts s lent n a h =
+    let w = accepted s lent n h in
+    let r = right-of s lent n a w in (
+      take-padded zeroNumbered 32 (tasksIn s) (r .few),
+      take-padded 0 12 (placesIn s) (r .few-places),
+      length-take-le (s .count) (s .tasks) (omega (arith, a .tasks, w .few)),
+      length-take-le (s .places) (s .chain) (omega (arith, a .chain, w .few-places)),
+    )
+
 -- A schedule that has zeros past its counts, as every schedule has that reading gives, is returned itself.
 pub cleared-same : (ts : List NumberedTask) (ch : List ℕ) → length ts ≤ 32 → length ch ≤ 12 → cleared (scheduleOf ts ch) ≡ scheduleOf ts ch
 cleared-same ts ch a b = rw (take-padded zeroNumbered 32 ts a, take-padded 0 12 ch b)
@@ -116,6 +128,13 @@ module _ (b : List ℕ) (is : Bytes b) (fine : readFile b .refusal .number ≡ 0
       let w : writtenOf (readFile b .schedule) (length old) ≡ written.Bytes (length b) = written-again (length old) ∙ rw (le-leb (length b) (length old) h) refl in
       (w, ap (λ (x : Written). leftBytes x (fileBytes (readFile b .schedule)) old) w ∙ ap (λ (f : List ℕ). f ++ drop (length f) old) spelt-again)
 
-  -- It is the file of the schedule that was read, and of no other.
+  -- It is the file of the schedule that was read, which writing accepts,
+  pub read-arrays : Arrays (readFile b .schedule)
+  read-arrays = record {
+    tasks = ap (λ (r : FileRead). length (r .schedule .tasks)) (ends .is) ∙ length-padded zeroNumbered 32 (ends .tasks) (ends .right .few);
+    chain = ap (λ (r : FileRead). length (r .schedule .chain)) (ends .is) ∙ length-padded 0 12 (ends .chain) (ends .right .few-places);
+  }
+
+  -- and of no other.
   pub one-schedule : (s : Schedule) (lent n : ℕ) → Arrays s → writtenOf s lent ≡ written.Bytes n → fileBytes s ≡ b → cleared s ≡ readFile b .schedule
   one-schedule s lent n a w e = ap (λ (r : FileRead). r .schedule) (sym (read-after-write s lent n a w) ∙ ap readFile e)

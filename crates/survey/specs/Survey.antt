@@ -1,11 +1,11 @@
 -- Document 01, "Survey examples": A1 to A8, B, C, D and E as one computed list with one conclusion. Every row is computed from the definitions that the
 -- calls' contracts cite; a call's answer is turned into plain numbers: of a refusal its number and its place, of a success 0 and its values.
-use Prim.Native.Nat.{ℕ, _+_}
+use Prim.Native.Nat.{ℕ, _+_, _-_}
 use mathlib.Core.Path.{_≡_, refl}
 use mathlib.Core.Bool.{not, cond}
 use mathlib.Core.List.{List, [], _∷_, _++_, map}
 use lib.Dec.{eqb, leb, ltb}
-use lib.ListN.{length, take}
+use lib.ListN.{length, take, replicate}
 use Rattle.task.specs.declared.Task.{Task}
 use Rattle.task.specs.declared.Job.{Job}
 use Rattle.task.specs.Jobs.{withinLimits}
@@ -14,7 +14,7 @@ use Rattle.euclid.specs.Divisor.{euclid, gcdOf, lcmOf}
 use Rattle.chain.specs.declared.Chain.{Chain}
 use Rattle.chain.specs.declared.Verdict.{Verdict}
 use Rattle.chain.specs.declared.Verdict.the-variants as verdict
-use Rattle.chain.specs.Chains.{zeroTask, forwardBy, onLatest, backwardBy}
+use Rattle.chain.specs.Chains.{tasksOf, zeroTask, forwardBy, onLatest, backwardBy}
 use Rattle.chain.specs.Hyperperiod.{hyperFrom}
 use Rattle.chain.specs.Checks.{firstFault, hyperVerdict, verdictOf}
 use Rattle.timing.specs.declared.WarmUp.{WarmUp}
@@ -42,6 +42,7 @@ use Rattle.figures.specs.Figures.{delaySum, exceedance, greatestOf, lowOf, mean
 use Rattle.partition.specs.Lists.{rangeFrom, keep, fresh, dropRepeats}
 use Rattle.partition.specs.Partitions.{startOf, endOf, keeps, anchorsFrom}
 use Rattle.maker.specs.Making.{judged, madeAfter, madeOf, writtenAfter, writtenOf, startsOf, latenciesOf, told}
+use Rattle.windows.specs.Windows as window
 use Rattle.windows.specs.Windows.{spanOf, misses, missesIn, largest, windowOf, mostMisses}
 
 -- ---- the chains
@@ -49,9 +50,12 @@ use Rattle.windows.specs.Windows.{spanOf, misses, missesIn, largest, windowOf, 
 abbrev task : ℕ → ℕ → ℕ → Task
 task t d f = record { period = t; duration = d; phase = f }
 
--- A chain has room for twelve tasks; entries past its places are no part of it.
+-- A chain of so many places has room for twelve tasks; entries past its places are no part of it.
+abbrev chainWith : List Task → ℕ → Chain
+chainWith l n = record { tasks = l ++ replicate (12 - length l) zeroTask; places = n }
+
 abbrev chainOf : List Task → Chain
-chainOf l = record { tasks = l; places = length l }
+chainOf l = chainWith l (length l)
 
 abbrev A : Chain
 A = chainOf (task 4 4 0 ∷ task 6 6 0 ∷ [])
@@ -117,6 +121,13 @@ abbrev verdictIs : Verdict → List ℕ
 verdictIs (verdict.Accepted h) = 0 ∷ h ∷ []
 verdictIs (verdict.Refused r) = r .number ∷ r .place ∷ []
 
+-- What windows tell where job j is chosen, and the first and the last job that may be chosen.
+abbrev windows : Chain → ℕ → ℕ → ℕ → List ℕ
+windows c b k j = let t : window.Told = window.toldAfter (tasksOf c) b k j (window.judged c k) in t .number ∷ t .place ∷ t .misses ∷ t .first ∷ []
+
+abbrev range : Chain → List ℕ
+range c = (warmAt (tasksOf c) 0 + 1) ∷ (warmAt (tasksOf c) 0 + window.starts (tasksOf c)) ∷ []
+
 -- ---- the list
 
 unfoldable pub computed : List (List ℕ)
@@ -138,16 +149,17 @@ computed =
     -- A7
     ∷ runIs (exceedanceOf (starts A 2) (latencies A 2) 2 12 18) ∷ runIs (exceedanceOf (starts A 2) (latencies A 2) 2 12 14)
     ∷ runIs (exceedanceOf (starts A 2) (latencies A 2) 2 12 11) ∷ runIs (exceedanceOf (starts A 2) (latencies A 2) 2 12 10)
-    -- A8: the most misses, and those in the window from job 3
-    ∷ (mostMisses (A .tasks) 11 2 ∷ windowOf (A .tasks) 11 2 3 ∷ mostMisses (A .tasks) 14 3 ∷ [])
+    -- A8: what the call tells where it chooses job 3; the first jobs that it may choose; and the misses in the window from each of them, of which only job 3's has as many
+    ∷ windows A 11 2 3 ∷ range A ∷ (windowOf (tasksOf A) 11 2 1 ∷ windowOf (tasksOf A) 11 2 2 ∷ windowOf (tasksOf A) 11 2 3 ∷ [])
+    ∷ windows A 14 3 1
     -- B
     ∷ starts B 1 ∷ latencies B 1 ∷ ticksOf (delayOf B 4)
-    -- C
-    ∷ starts C 1 ∷ latencies C 1
+    -- C, cut at 1 and at 2
+    ∷ starts C 1 ∷ latencies C 1 ∷ starts C 2 ∷ latencies C 2
     -- D
     ∷ warm D ∷ ticksOf (delayOf D 90) ∷ ticksOf (delayOf D 89)
     -- E: no place, 13 places, H at its limit and above
-    ∷ verdictIs (verdictOf (record { tasks = []; places = 0 })) ∷ verdictIs (verdictOf (record { tasks = []; places = 13 }))
+    ∷ verdictIs (verdictOf (chainWith [] 0)) ∷ verdictIs (verdictOf (chainWith [] 13))
     ∷ verdictIs (verdictOf (E 768)) ∷ verdictIs (verdictOf (E 769))
     ∷ []
 
@@ -164,14 +176,15 @@ said =
     ∷ (0 ∷ 10 ∷ []) ∷ (0 ∷ 174 ∷ 12 ∷ []) ∷ (0 ∷ 18 ∷ [])
     ∷ (0 ∷ 0 ∷ []) ∷ (0 ∷ 4 ∷ [])
     ∷ (0 ∷ 11 ∷ []) ∷ (1 ∷ [])
-    ∷ (2 ∷ 2 ∷ 0 ∷ [])
+    ∷ (0 ∷ 0 ∷ 2 ∷ 3 ∷ []) ∷ (1 ∷ 3 ∷ []) ∷ (1 ∷ 1 ∷ 2 ∷ [])
+    ∷ (0 ∷ 0 ∷ 0 ∷ 1 ∷ [])
     ∷ (5 ∷ []) ∷ (13 ∷ []) ∷ (12 ∷ 0 ∷ [])
-    ∷ (0 ∷ []) ∷ (15 ∷ [])
+    ∷ (0 ∷ []) ∷ (15 ∷ []) ∷ (0 ∷ []) ∷ (15 ∷ [])
     ∷ (0 ∷ 10 ∷ 90 ∷ 9 ∷ 0 ∷ []) ∷ (0 ∷ 16 ∷ []) ∷ (12 ∷ 0 ∷ [])
     ∷ (8 ∷ 0 ∷ []) ∷ (8 ∷ 0 ∷ [])
     ∷ (0 ∷ 60000000 ∷ []) ∷ (7 ∷ 0 ∷ [])
     ∷ []
 
 pub survey : computed ≡ said
-unfolding computed withinLimits earliestFrom latestBy forwardLink backwardLink euclid gcdOf lcmOf forwardBy onLatest backwardBy hyperFrom firstFault hyperVerdict verdictOf leastFrom warmLast warmAt warmTick delayAt firstAged ageAt entries warmUpAfter spanAfter anchors spaced wellFormed read.reading read.delayAt read.lastAt greatest lowTo low total everyAbove longestRun ticks delaySum exceedance greatestOf lowOf meanOf exceedanceOf rangeFrom keep fresh dropRepeats startOf endOf keeps anchorsFrom judged madeAfter writtenAfter spanOf misses missesIn largest mostMisses
+unfolding computed withinLimits earliestFrom latestBy forwardLink backwardLink euclid gcdOf lcmOf forwardBy onLatest backwardBy hyperFrom firstFault hyperVerdict verdictOf leastFrom warmLast warmAt warmTick delayAt firstAged ageAt entries warmUpAfter spanAfter anchors spaced wellFormed read.reading read.delayAt read.lastAt greatest lowTo low total everyAbove longestRun ticks delaySum exceedance greatestOf lowOf meanOf exceedanceOf rangeFrom keep fresh dropRepeats startOf endOf keeps anchorsFrom judged madeAfter writtenAfter spanOf misses missesIn largest mostMisses window.judged window.toldAfter
 survey = refl

@@ -1,4 +1,4 @@
-use mathlib.Core.Path.{_≡_, ap, _∙_}
+use mathlib.Core.Path.{ap, _∙_}
 use Rattle.chain.specs.declared.Chain.{Chain}
 use Rattle.schedule.specs.Schedules.{chainOf}
 use Rattle.chain.specs.Flat.{flatChain}

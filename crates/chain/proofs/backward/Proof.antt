@@ -1,12 +1,11 @@
 use native.Mathlib.Omega.{arith}
-use Prim.Native.Nat.{ℕ, _-_, _*_, _≤_}
-use mathlib.Core.Path.{_≡_, sym, ap, _∙_}
+use Prim.Native.Nat.{_-_}
+use mathlib.Core.Path.{ap, _∙_}
 use mathlib.Core.List.{List}
 use Rattle.task.specs.declared.Task.{Task}
 use Rattle.task.specs.Jobs.{readOf}
 use Rattle.chain.specs.Chains.{at, backwardBy}
 use Rattle.chain.proofs.Filling.{front-is, front-sound, front-count, front-length}
-use borrow.Author.Needs.{needs}
 use Rattle.chain.proofs.backward.Statement.{statement}
 use Rattle.chain.proofs.backward.Tie as tie
 

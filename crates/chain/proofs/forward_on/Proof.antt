@@ -1,13 +1,9 @@
 use native.Mathlib.Omega.{arith}
-use Prim.Native.Nat.{ℕ, _+_, _-_, _≤_, _<_}
-use mathlib.Core.Path.{_≡_, sym, ap, _∙_}
-use lib.ListN.{length}
+use Prim.Native.Nat.{ℕ, _+_, _-_, _≤_}
+use mathlib.Core.Path.{_≡_, ap, _∙_}
 use Rattle.task.specs.declared.Task.{Task}
-use Rattle.task.specs.Jobs.{writeOf}
-use Rattle.task.specs.Links.{forwardLink}
 use Rattle.chain.specs.Chains.{at, forwardBy}
 use Rattle.chain.specs.Flat.{tasksIn}
-use Rattle.chain.specs.Ranges.{forward-fits}
 use Rattle.chain.proofs.Steps.{forward-none, forward-small, forward-step}
 use Rattle.chain.proofs.forward_on.Statement.{statement}
 use Rattle.chain.proofs.forward_on.Tie as tie

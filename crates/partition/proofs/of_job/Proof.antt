@@ -1,7 +1,6 @@
 use native.Mathlib.Omega.{arith}
-use Prim.Native.Nat.{_-_, _/_}
-use mathlib.Core.Path.{_≡_, refl, sym, ap, _∙_}
-use lib.ListN.{length}
+use Prim.Native.Nat.{_-_}
+use mathlib.Core.Path.{_≡_, refl, ap, _∙_}
 use Rattle.chain.specs.Chains.{backwardBy, jobOf}
 use Rattle.chain.specs.Flat.{tasksIn, in-count, in-last}
 use Rattle.partition.proofs.Bounds.{start-is, end-is, start-small, end-small, job-top}
