@@ -11,12 +11,8 @@ use Rattle.schedule.specs.declared.NumberedTask.{NumberedTask}
 use Rattle.schedule.specs.Schedules.{known, positionOf, padded}
 use Rattle.schedule.specs.Padding.{padded-none, padded-set}
 use Rattle.schedule.specs.Numbers.{known-position, unknown-position}
+use Rattle.file_reader.specs.Records.{length-numbers}
 use Rattle.file_reader.specs.Reading.{numbersFrom, chainField, taskField, lastOf, allKnown}
-
-pub length-numbers : (l : List ℕ) (at n : ℕ) → length (numbersFrom l at n) ≡ n
-unfolding numbersFrom
-length-numbers l at zero = refl
-length-numbers l at (suc n) = ap suc (length-numbers l (2 + at) n)
 
 numbers-more : (l : List ℕ) (at n : ℕ) → numbersFrom l at (suc n) ≡ numbersFrom l at n ++ (numberAt l (at + 2 * n) 2 ∷ [])
 unfolding numbersFrom

@@ -17,8 +17,7 @@ use Rattle.file_reader.specs.declared.Record.{Record}
 use Rattle.file_reader.specs.declared.Record.the-variants.{Task, Chain, End, Fault}
 use Rattle.file_reader.specs.declared.FileRead.{FileRead}
 use Rattle.file_reader.specs.Reading.{chainField, recordOf, refusedFile, acceptedFile, afterRecord, readFrom, readFile}
-use Rattle.file_reader.specs.Records.{IsTask, IsChain, tells}
-use Rattle.file_reader.proofs.Fields.{length-numbers}
+use Rattle.file_reader.specs.Records.{IsTask, IsChain, tells, length-numbers}
 
 pub map-snoc : (ts : List NumberedTask) (t : NumberedTask) → map numberOf (ts ++ (t ∷ [])) ≡ map numberOf ts ++ (t .number ∷ [])
 map-snoc [] t = refl

@@ -11,8 +11,8 @@ use Rattle.schedule.specs.declared.NumberedTask.{NumberedTask}
 use Rattle.schedule.specs.Schedules.{numberOf}
 use Rattle.file_reader.specs.declared.Record.{Record}
 use Rattle.file_reader.specs.declared.Record.the-variants.{Task, Chain, End, Fault}
-use Rattle.file_reader.specs.Reading.{numbersFrom, chainField, recordOf, afterRecord, readFrom, readFile}
-use Rattle.file_reader.specs.Records.{Tells, tells}
+use Rattle.file_reader.specs.Reading.{chainField, recordOf, afterRecord, readFrom, readFile}
+use Rattle.file_reader.specs.Records.{Tells, tells, length-numbers}
 
 pub record SmallRefusal (r : Refusal) : Type 0 where
   pub number : r .number ≤ 6
@@ -23,11 +23,6 @@ record Near (tasks places at : ℕ) : Type 0 where
   few : tasks ≤ 32
   tasks-only : places ≡ 0 → at ≤ 18 * tasks
   with-chain : at ≤ 18 * tasks + 28
-
-places-length : (l : List ℕ) (at n : ℕ) → length (numbersFrom l at n) ≡ n
-unfolding numbersFrom
-places-length l at zero = refl
-places-length l at (suc n) = ap suc (places-length l (2 + at) n)
 
 from-small : (n : ℕ) (ts : List NumberedTask) (ch : List ℕ) (at : ℕ) (l : List ℕ) → Near (length ts) (length ch) at → SmallRefusal (readFrom n ts ch at l .refusal)
 unfolding readFrom afterRecord
@@ -43,7 +38,7 @@ from-small (suc n) ts ch at l near =
         let a : at ≤ 18 * length ts = near .tasks-only (i .no-chain) in
         on (ts ++ (t ∷ [])) ch (at + 18) (drop 18 l) (record { few = omega (arith, i .few, length-map ts numberOf); tasks-only = λ z. omega arith; with-chain = omega arith })
     go (Chain p) i on =
-        let m : length (chainField l p) ≡ p = places-length l 4 p in
+        let m : length (chainField l p) ≡ p = length-numbers l 4 p in
         let a : at ≤ 18 * length ts = near .tasks-only (i .no-chain) in
         on ts (chainField l p) (at + (4 + 2 * p)) (drop (4 + 2 * p) l) (record { few = near .few; tasks-only = λ z. absurd (omega (arith, i .some)); with-chain = omega (arith, i .few) })
     go End i on = elim (decLt 4 (length l)) [

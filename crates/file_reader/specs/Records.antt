@@ -9,9 +9,15 @@ use lib.ListN.{length}
 use borrow.Author.Tests.{ltb-true, ltb-false, leb-true, eqb-true, eqb-false}
 use Rattle.schedule.specs.declared.NumberedTask.{NumberedTask}
 use Rattle.schedule.specs.Schedules.{taskRule}
+use Rattle.schedule.specs.Rule.{both}
 use Rattle.file_reader.specs.declared.Record.{Record}
 use Rattle.file_reader.specs.declared.Record.the-variants.{Task, Chain, End, Fault}
-use Rattle.file_reader.specs.Reading.{lengthField, kindField, placesField, taskField, chainField, lastOf, allKnown, taskRecord, chainRecord, endRecord, kindRecord, recordOf}
+use Rattle.file_reader.specs.Reading.{lengthField, kindField, placesField, taskField, chainField, lastOf, allKnown, taskRecord, chainRecord, endRecord, kindRecord, recordOf, numbersFrom}
+
+pub length-numbers : (l : List ℕ) (at n : ℕ) → length (numbersFrom l at n) ≡ n
+unfolding numbersFrom
+length-numbers l at zero = refl
+length-numbers l at (suc n) = ap suc (length-numbers l (2 + at) n)
 
 pub record IsTask (numbers : List ℕ) (places : ℕ) (l : List ℕ) (t : NumberedTask) : Type 0 where
   pub long : 18 ≤ length l
@@ -48,11 +54,6 @@ Tells numbers places l (Fault k) = (1 ≤ k) × (k ≤ 6)
 choice : (P : Record → Type 0) (b : Bool) (x y : Record) → (b ≡ true → P x) → (b ≡ false → P y) → P (cond b x y)
 choice P true x y f g = f refl
 choice P false x y f g = g refl
-
-both : (a b : Bool) → (a && b) ≡ true → (a ≡ true) × (b ≡ true)
-both true true h = (refl, refl)
-both true false h = absurd (let z : _≡_ {A = ℕ} 0 1 = cc in omega arith)
-both false b h = absurd (let z : _≡_ {A = ℕ} 0 1 = cc in omega arith)
 
 module _ (ns : List ℕ) (p : ℕ) (l : List ℕ) (inside : lengthField l ≤ length l) where
   task-tells : kindField l ≡ 1 → Tells ns p l (taskRecord ns p l)

@@ -112,9 +112,3 @@ module _ (s : Schedule) (lent : ℕ) where
 pub file-long : (s : Schedule) → length (s .tasks) ≡ 32 → length (s .chain) ≡ 12 → s .count ≤ 32 → s .places ≤ 12 → 18 * s .count + 8 + 2 * s .places ≡ length (fileBytes s)
 file-long s a b c d =
     omega (arith, length-file (tasksIn s) (placesIn s), length-take-le (s .count) (s .tasks) (omega arith), length-take-le (s .places) (s .chain) (omega arith))
-
--- the numbers of the first tasks are the first of the numbers
-pub numbers-first : (ts : List NumberedTask) (n : ℕ) → map numberOf (take n ts) ≡ take n (map numberOf ts)
-numbers-first ts zero = refl
-numbers-first [] (suc n) = refl
-numbers-first (t ∷ ts) (suc n) = ap (λ (l : List ℕ). t .number ∷ l) (numbers-first ts n)

@@ -10,6 +10,7 @@ use borrow.Author.Tests.{leb-true}
 use Rattle.refusal.specs.Refusals.{refusal}
 use Rattle.schedule.specs.declared.Schedule.{Schedule}
 use Rattle.schedule.specs.Schedules.{numberOf, tasksIn, placesIn}
+use Rattle.schedule.specs.Rule.{both}
 use Rattle.file_writer.specs.declared.Written.{Written}
 use Rattle.file_writer.specs.declared.Written.the-variants.{Bytes, Refused}
 use Rattle.file_writer.specs.FileBytes.{fileBytes}
@@ -24,11 +25,6 @@ pub record Accepted (s : Schedule) (lent n : ℕ) : Type 0 where
   pub places-known : firstUnknown 1 (map numberOf (tasksIn s)) (placesIn s) ≡ 0
   pub long : n ≡ length (fileBytes s)
   pub fits : n ≤ lent
-
-pub both : (a b : Bool) → (a && b) ≡ true → (a ≡ true) × (b ≡ true)
-both true true h = (refl, refl)
-both true false h = absurd (let z : _≡_ {A = ℕ} 0 1 = cc in omega arith)
-both false b h = absurd (let z : _≡_ {A = ℕ} 0 1 = cc in omega arith)
 
 module _ (s : Schedule) (lent n : ℕ) where
   fits-file : (long : ℕ) → lengthVerdict long lent ≡ Bytes n → (n ≡ long) × (n ≤ lent)

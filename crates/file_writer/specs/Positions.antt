@@ -12,11 +12,11 @@ use Rattle.refusal.specs.Refusals.{refusal}
 use Rattle.schedule.specs.declared.NumberedTask.{NumberedTask}
 use Rattle.schedule.specs.declared.Schedule.{Schedule}
 use Rattle.schedule.specs.Schedules.{numberOf, tasksIn, placesIn, taskRule, known}
+use Rattle.schedule.specs.Rule.{both}
 use Rattle.file_writer.specs.declared.Written.{Written}
 use Rattle.file_writer.specs.declared.Written.the-variants.{Bytes, Refused}
 use Rattle.file_writer.specs.FileBytes.{fileBytes}
 use Rattle.file_writer.specs.Writing.{firstFault, firstUnknown, afterFault, countsRight, lengthVerdict, writtenOf}
-use Rattle.file_writer.specs.Accepted.{both}
 
 abbrev pub SmallWritten : Written → Type 0
 SmallWritten (Bytes n) = Unit {0}

@@ -2,16 +2,16 @@
 use Prim.Native.Nat.{ℕ, zero, suc, _+_, _-_, _≤_, _<_}
 use native.Mathlib.Omega.{arith}
 use mathlib.Core.Path.{_≡_, refl, sym, ap, _∙_}
-use mathlib.Core.Bool.{Bool, true, false, cond, _&&_}
+use mathlib.Core.Bool.{Bool, true, false, cond}
 use mathlib.Core.List.{List, [], _∷_, _++_, map}
-use lib.Dec.{ltb, leb, eqb}
+use lib.Dec.{eqb}
 use lib.ListN.{length, getD, length-append, length-map}
 use lib.Seq.{getD-append-seam}
-use borrow.Author.Tests.{ltb-true, leb-true, eqb-true}
+use borrow.Author.Tests.{eqb-true}
 use Rattle.little_endian.specs.LittleEndian.{power}
-use Rattle.task.specs.Jobs.{withinLimits}
 use Rattle.schedule.specs.declared.NumberedTask.{NumberedTask}
 use Rattle.schedule.specs.Schedules.{numberOf, taskRule, known}
+use Rattle.schedule.specs.Rule.{Rule, rule}
 use Rattle.file_reader.specs.Reading.{lastOf, allKnown}
 use Rattle.file_writer.specs.Writing.{firstFault, firstUnknown}
 use Rattle.round_trip.specs.RecordBytes.{FitsTask, Small, none, more}
@@ -24,28 +24,18 @@ pub record Right (ts : List NumberedTask) (ch : List ℕ) : Type 0 where
   pub few-places : length ch ≤ 12
   pub places-known : firstUnknown 1 (map numberOf ts) ch ≡ 0
 
-and-both : (a b : Bool) → (a && b) ≡ true → (a ≡ true) × (b ≡ true)
-and-both true true h = (refl, refl)
-and-both true false h = absurd (let z : _≡_ {A = ℕ} 0 1 = cc in omega arith)
-and-both false b h = absurd (let z : _≡_ {A = ℕ} 0 1 = cc in omega arith)
-
 -- ---- the rule of a task
 
 -- the values of a task that keeps the rule fit their fields
 pub rule-fits : (before : ℕ) (t : NumberedTask) → taskRule before t ≡ true → FitsTask t
-unfolding taskRule withinLimits power
+unfolding power
 rule-fits before t h =
-    let a = and-both (ltb before (t .number)) _ h in
-    let b = and-both (leb (t .number) 65535) _ (a .1) in
-    let c = and-both (leb 1 (t .task .period)) _ (b .1) in
-    let d = and-both (leb (t .task .period) 1000000) _ (c .1) in
-    let e = and-both (leb 1 (t .task .duration)) _ (d .1) in
-    let f = and-both (leb (t .task .duration) 4000000) _ (e .1) in
+    let r = rule before t h in
     record {
-      number = omega (arith, leb-true (t .number) 65535 (b .0));
-      period = omega (arith, leb-true (t .task .period) 1000000 (d .0));
-      duration = omega (arith, leb-true (t .task .duration) 4000000 (f .0));
-      phase = omega (arith, leb-true (t .task .phase) 1000000 (f .1));
+      number = omega (arith, r .number-max);
+      period = omega (arith, r .within .period-max);
+      duration = omega (arith, r .within .duration-max);
+      phase = omega (arith, r .within .phase-max);
     }
 
 -- no fault from position p on: the first task keeps the rule, and there is none after it
@@ -107,13 +97,11 @@ all-unknown p ns (n ∷ ch) h = go (known ns n) h (all-unknown (p + 1) ns ch)
 
 -- a number of a task that keeps the rule is small, so every number of such a chain is
 known-small : (p before : ℕ) (ts : List NumberedTask) (n : ℕ) → 1 ≤ p → firstFault p before ts ≡ 0 → known (map numberOf ts) n ≡ true → n < 65536
-unfolding known taskRule
+unfolding known
 known-small p before [] n pos f h = absurd (let z : _≡_ {A = ℕ} 0 1 = cc in omega arith)
 known-small p before (t ∷ ts) n pos f h =
     let k = fault-cons p before t ts pos f in
-    let a = and-both (ltb before (t .number)) _ (k .0) in
-    let b = and-both (leb (t .number) 65535) _ (a .1) in
-    go (eqb (t .number) n) refl h (leb-true (t .number) 65535 (b .0)) (known-small (p + 1) (t .number) ts n (omega arith) (k .1))
+    go (eqb (t .number) n) refl h (rule before t (k .0) .number-max) (known-small (p + 1) (t .number) ts n (omega arith) (k .1))
   where
     go : (b : Bool) → eqb (t .number) n ≡ b → cond b true (known (map numberOf ts) n) ≡ true → t .number ≤ 65535 → (known (map numberOf ts) n ≡ true → n < 65536) → n < 65536
     go true e k s r = omega (arith, eqb-true (t .number) n e)

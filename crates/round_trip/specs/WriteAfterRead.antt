@@ -16,8 +16,7 @@ use Rattle.file_reader.specs.declared.Record.{Record}
 use Rattle.file_reader.specs.declared.Record.the-variants.{Task, Chain, End, Fault}
 use Rattle.file_reader.specs.declared.FileRead.{FileRead}
 use Rattle.file_reader.specs.Reading.{chainField, recordOf, refusedFile, acceptedFile, afterRecord, readFrom, readFile}
-use Rattle.file_reader.specs.Records.{IsTask, IsChain, IsEnd, Tells, tells}
-use Rattle.file_reader.proofs.Fields.{length-numbers}
+use Rattle.file_reader.specs.Records.{IsTask, IsChain, IsEnd, Tells, tells, length-numbers}
 use Rattle.file_writer.specs.FileBytes.{taskBytes, tasksBytes, chainBytes, endBytes, fileOf}
 use Rattle.file_writer.specs.Writing.{firstFault, firstUnknown}
 use Rattle.file_writer.proofs.Faults.{fault-none}

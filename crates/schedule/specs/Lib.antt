@@ -1,3 +1,4 @@
 pub mod Schedules
 pub mod Padding
 pub mod Numbers
+pub mod Rule

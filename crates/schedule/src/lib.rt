@@ -1,5 +1,5 @@
 // A schedule by value: its tasks with their numbers, the places of its chain, and their two counts.
-// `chain_of` takes any schedule. `follows` takes any task, `at_most` any numbers; what `find` and `numbers_of` require is proved by the crates that call them.
+// `chain_of` takes any schedule. `follows` takes any task, `numbers_of` and `at_most` any values; what `find` requires is proved by the crates that call them.
 use chain::Chain;
 use task::Task;
 ghost use mathlib.Core.Path.{_≡_};

@@ -4,9 +4,10 @@ use mathlib.Core.Path.{_≡_, refl, sym, ap, _∙_}
 use mathlib.Core.List.{List, map}
 use lib.ListN.{length, take, length-map}
 use Rattle.schedule.specs.Schedules.{numberOf, tasksIn, placesIn}
+use Rattle.schedule.proofs.PlaceLaws.{map-take}
 use Rattle.file_writer.specs.FileBytes.{fileBytes}
 use Rattle.file_writer.specs.Writing.{firstFault, firstUnknown}
-use Rattle.file_writer.proofs.Faults.{no-task, many-tasks, no-place, many-places, task-fault, place-fault, too-short, long-enough, file-long, numbers-first}
+use Rattle.file_writer.proofs.Faults.{no-task, many-tasks, no-place, many-places, task-fault, place-fault, too-short, long-enough, file-long}
 use borrow.Author.Needs.{needs}
 use Rattle.file_writer.proofs.judge.Statement.{statement}
 use Rattle.file_writer.proofs.judge.Tie as tie
@@ -29,7 +30,7 @@ unknown-is : (c : tie.After-first-unknown) → c .first-unknown .result ≡ firs
 unknown-is c =
     c .first-unknown .ensures
     ∙ ap (λ (l : List ℕ). firstUnknown 1 (take (c .before .before .before .before .before .before .before .before .before .before .before .before .before .before .before .args .s .count) l) (placesIn (c .before .before .before .before .before .before .before .before .before .before .before .before .before .before .before .args .s))) (c .before .before .numbers-of .ensures)
-    ∙ ap (λ (l : List ℕ). firstUnknown 1 l (placesIn (c .before .before .before .before .before .before .before .before .before .before .before .before .before .before .before .args .s))) (sym (numbers-first (c .before .before .before .before .before .before .before .before .before .before .before .before .before .before .before .args .s .tasks) (c .before .before .before .before .before .before .before .before .before .before .before .before .before .before .before .args .s .count)))
+    ∙ ap (λ (l : List ℕ). firstUnknown 1 l (placesIn (c .before .before .before .before .before .before .before .before .before .before .before .before .before .before .before .args .s))) (sym (map-take numberOf (c .before .before .before .before .before .before .before .before .before .before .before .before .before .before .before .args .s .count) (c .before .before .before .before .before .before .before .before .before .before .before .before .before .before .before .args .s .tasks)))
 
 all-known : (c : tie.Else6) → firstUnknown 1 (map numberOf (tasksIn (c .before .before .before .before .before .before .before .before .before .before .before .before .before .before .before .before .args .s))) (placesIn (c .before .before .before .before .before .before .before .before .before .before .before .before .before .before .before .before .args .s)) ≡ 0
 all-known c = sym (unknown-is (c .before)) ∙ c .if6 .left
