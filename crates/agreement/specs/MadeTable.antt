@@ -1,30 +1,28 @@
 -- A table as making completed it: its anchors are the chain's, whatever the lists held before and hold from g on, and it is well-formed.
-use Prim.Native.Nat.{ℕ, zero, suc, _+_, _-_, _≤_, _<_}
+use Prim.Native.Nat.{ℕ, suc, _+_, _-_, _≤_, _<_}
 use native.Mathlib.Omega.{arith}
-use mathlib.Core.Path.{_≡_, refl, sym, ap, _∙_}
+use mathlib.Core.Path.{_≡_, refl, ap, _∙_}
 use mathlib.Core.Bool.{Bool, true, false, cond}
 use mathlib.Core.List.{List, [], _∷_}
 use lib.Dec.{leb}
-use lib.ListN.{length, length-map}
+use lib.ListN.{length}
 use borrow.Author.Tests.{le-leb, lt-ltb, eq-eqb, leb-true}
-use Rattle.task.specs.declared.Task.{Task}
 use Rattle.chain.specs.declared.Chain.{Chain}
 use Rattle.chain.specs.declared.Verdict.{Verdict}
 use Rattle.chain.specs.declared.Verdict.the-variants as verdict
 use Rattle.chain.specs.Chains.{tasksOf, at}
-use Rattle.chain.specs.Checks.{verdictOf, Sound, Checked}
+use Rattle.chain.specs.Checks.{verdictOf, Sound}
 use Rattle.chain.specs.Hyperperiod.{hyperOf}
 use Rattle.chain.proofs.CheckLaws.{Facts, accepted}
 use Rattle.task.specs.Jobs.{readOf}
 use Rattle.timing.specs.WarmUp.{warmAt, warmTick}
 use Rattle.timing.specs.WarmRanges.{warm-range}
-use Rattle.table.specs.Anchors.{Anchor, anchor, anchors, firstStart, next}
+use Rattle.table.specs.Anchors.{Anchor, anchors, firstStart, next}
 use Rattle.table.specs.WellFormed.{latencyLimit, fitting, spaced, measured, wellFormed}
 use Rattle.table.specs.Segments.{Spaced}
 use Rattle.partition.specs.Partitions.{anchorsOf}
 use Rattle.partition.specs.CutFree.{canonical, cut-canonical}
 use Rattle.maker.specs.declared.Figures.{Figures}
-use Rattle.maker.specs.declared.Made.{Made}
 use Rattle.maker.specs.declared.Made.the-variants.{Whole, Short, Refused}
 use Rattle.maker.specs.Making.{judged, figuresOf, madeAfter, madeOf, writtenAfter, startsOf, latenciesOf, overlay, Makes}
 use Rattle.maker.proofs.Exits.{Well, well}
@@ -78,12 +76,12 @@ pub record Completed (c : Chain) (p a b : ℕ) (f : Figures) : Type 0 where
 
 module _ (c : Chain) (twelve : length (c .tasks) ≡ 12) where
   whole-after : (p a b : ℕ) (f : Figures) (v : Verdict) → judged c p a b ≡ v → Whole f ≡ madeAfter c p a v → Completed c p a b f
-  unfolding madeAfter
+  unfolding madeAfter judged
   whole-after p a b f (verdict.Refused r) e q = absurd (let z : _≡_ {A = ℕ} 0 1 = cc in omega arith)
   whole-after p a b f (verdict.Accepted h) e q = go (leb (length (anchorsOf (tasksOf c) (p - 1) h)) a) refl q
     where
-      w : Well c p a b h
-      w = well c p a b h e
+      w : Well (verdictOf c) (c .places) p a b h
+      w = well (verdictOf c) (c .places) p a b h e
 
       k : Facts c h
       k = accepted c h twelve (w .whole)

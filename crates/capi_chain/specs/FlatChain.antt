@@ -1,11 +1,12 @@
 -- A chain as C gives it: the flat list T, D, F, T, D, F, .. of its tasks, and the number of places.
 use Prim.Native.Nat.{ℕ, _+_, _*_, _/_, _%_}
 use mathlib.Core.Bool.{cond, _&&_}
-use mathlib.Core.List.{List, [], _∷_}
+use mathlib.Core.List.{List}
 use lib.Dec.{leb, eqb}
 use lib.ListN.{length, getD}
 use Rattle.task.specs.declared.Task.{Task}
 use Rattle.chain.specs.declared.Chain.{Chain}
+use Rattle.chain.specs.Entries.{entries}
 
 -- Task i of the list, zeros where the list does not hold it whole.
 unfoldable pub taskAt : List ℕ → ℕ → Task
@@ -19,7 +20,4 @@ unfoldable pub placesOf : ℕ → ℕ → ℕ
 placesOf length places = cond (eqb (length % 3) 0 && leb places (length / 3)) places 0
 
 unfoldable pub chainFrom : List ℕ → ℕ → Chain
-chainFrom l places = record {
-  tasks = taskAt l 0 ∷ taskAt l 1 ∷ taskAt l 2 ∷ taskAt l 3 ∷ taskAt l 4 ∷ taskAt l 5 ∷ taskAt l 6 ∷ taskAt l 7 ∷ taskAt l 8 ∷ taskAt l 9 ∷ taskAt l 10 ∷ taskAt l 11 ∷ [];
-  places = placesOf (length l) places;
-}
+chainFrom l places = record { tasks = entries (taskAt l) 0 12; places = placesOf (length l) places }

@@ -1,1 +1,2 @@
 pub mod FlatChain
+pub mod Front

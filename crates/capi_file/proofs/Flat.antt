@@ -1,53 +1,48 @@
 -- Flat lists and arrays, an element at a time.
-use Prim.Native.Nat.{ℕ, zero, suc, _+_, _-_, _*_, _≤_, _<_}
+use Prim.Native.Nat.{ℕ, zero, suc, _+_, _*_, _≤_, _<_}
 use native.Mathlib.Omega.{arith}
 use native.Mathlib.Nat.{mul-le-mul-left}
 use native.Mathlib.Numerals.{add-one}
-use mathlib.Core.Path.{_≡_, refl, sym, ap, _∙_}
+use mathlib.Core.Path.{_≡_, sym, ap, _∙_}
 use mathlib.Core.List.{List, [], _∷_, _++_, append-assoc, append-nil}
 use lib.ListN.{length, getD, set, take, replicate, length-append, length-set}
 use lib.Seq.{sets, take-all, length-take-le}
 use Rattle.chain.specs.Flat.{flatOf}
+use Rattle.chain.specs.Entries.{entries, entries-length}
 use Rattle.chain.proofs.Filling.{length-flat, flat-more}
 use Rattle.schedule.specs.Schedules.{padded}
 use Rattle.schedule.specs.Padding.{padded-none, padded-set, padded-same, padded-whole}
-use Rattle.capi_file.specs.FlatSchedule.{entriesOf}
 
 -- ---- arrays from a rule
 
 module _ {A : Type 0} (f : ℕ → A) where
-  length-entries : (p n : ℕ) → length (entriesOf f p n) ≡ n
-  unfolding entriesOf
-  length-entries p zero = refl
-  length-entries p (suc n) = ap suc (length-entries (suc p) n)
-
-  entries-more : (p n : ℕ) → entriesOf f p (suc n) ≡ entriesOf f p n ++ (f (p + n) ∷ [])
-  unfolding entriesOf
+  entries-more : (p n : ℕ) → entries f p (suc n) ≡ entries f p n ++ (f (p + n) ∷ [])
+  unfolding entries
   entries-more p zero = let e : p + 0 ≡ p = omega arith in rw e
   entries-more p (suc n) =
       let e : suc p + n ≡ p + suc n = omega arith in
       let h = entries-more (suc p) n in
       ap (λ (l : List A). f p ∷ l) (rw e at h)
 
-  more : (n i : ℕ) (d : A) → padded n d (entriesOf f 0 i ++ (f i ∷ [])) ≡ padded n d (entriesOf f 0 (i + 1))
+  more : (n i : ℕ) (d : A) → padded n d (entries f 0 i ++ (f i ∷ [])) ≡ padded n d (entries f 0 (i + 1))
   more n i d =
       let e : 0 + i ≡ i = omega arith in
-      ap (λ (k : ℕ). padded n d (entriesOf f 0 i ++ (f k ∷ []))) (sym e) ∙ ap (padded n d) (sym (entries-more 0 i)) ∙ ap (λ (k : ℕ). padded n d (entriesOf f 0 k)) (sym (add-one i))
+      ap (λ (k : ℕ). padded n d (entries f 0 i ++ (f k ∷ []))) (sym e) ∙ ap (padded n d) (sym (entries-more 0 i)) ∙ ap (λ (k : ℕ). padded n d (entries f 0 k)) (sym (add-one i))
 
-  pub entries-store : (n i : ℕ) (d : A) → i < n → set (padded n d (entriesOf f 0 i)) i (f i) ≡ padded n d (entriesOf f 0 (i + 1))
-  entries-store n i d h = padded-set d n (entriesOf f 0 i) i (f i) (length-entries 0 i) h ∙ more n i d
+  pub entries-store : (n i : ℕ) (d : A) → i < n → set (padded n d (entries f 0 i)) i (f i) ≡ padded n d (entries f 0 (i + 1))
+  entries-store n i d h = padded-set d n (entries f 0 i) i (f i) (entries-length f 0 i) h ∙ more n i d
 
   -- where the entry is what was there before
-  pub entries-leave : (n i : ℕ) (d : A) → i < n → f i ≡ d → padded n d (entriesOf f 0 i) ≡ padded n d (entriesOf f 0 (i + 1))
+  pub entries-leave : (n i : ℕ) (d : A) → i < n → f i ≡ d → padded n d (entries f 0 i) ≡ padded n d (entries f 0 (i + 1))
   entries-leave n i d h e =
-      padded-same d n (entriesOf f 0 i) (omega (arith, length-entries 0 i)) ∙ ap (λ (x : A). padded n d (entriesOf f 0 i ++ (x ∷ []))) (sym e) ∙ more n i d
+      padded-same d n (entries f 0 i) (omega (arith, entries-length f 0 i)) ∙ ap (λ (x : A). padded n d (entries f 0 i ++ (x ∷ []))) (sym e) ∙ more n i d
 
-  pub entries-none : (n : ℕ) (d : A) → replicate n d ≡ padded n d (entriesOf f 0 0)
-  unfolding entriesOf
+  pub entries-none : (n : ℕ) (d : A) → replicate n d ≡ padded n d (entries f 0 0)
+  unfolding entries
   entries-none n d = sym (padded-none d n)
 
-  pub entries-whole : (n : ℕ) (d : A) → padded n d (entriesOf f 0 n) ≡ entriesOf f 0 n
-  entries-whole n d = padded-whole d n (entriesOf f 0 n) (omega (arith, length-entries 0 n))
+  pub entries-whole : (n : ℕ) (d : A) → padded n d (entries f 0 n) ≡ entries f 0 n
+  entries-whole n d = padded-whole d n (entries f 0 n) (omega (arith, entries-length f 0 n))
 
 -- ---- flat lists
 

@@ -1,10 +1,11 @@
 -- A schedule as C gives it: the flat list number, T, D, F, .. of its tasks with their count, and the list of its chain's task numbers with the number of places.
-use Prim.Native.Nat.{ℕ, zero, suc, _+_, _*_, _/_, _%_}
+use Prim.Native.Nat.{ℕ, _+_, _*_, _/_, _%_}
 use mathlib.Core.Bool.{cond, _&&_}
 use mathlib.Core.List.{List, [], _∷_}
 use lib.Dec.{leb, eqb}
 use lib.ListN.{length, getD}
 use Rattle.chain.specs.Flat.{flatOf}
+use Rattle.chain.specs.Entries.{entries}
 use Rattle.schedule.specs.declared.NumberedTask.{NumberedTask}
 use Rattle.schedule.specs.declared.Schedule.{Schedule}
 use Rattle.schedule.specs.Schedules.{zeroNumbered}
@@ -20,16 +21,11 @@ numberedAt l i =
 abbrev pub placeAt : List ℕ → ℕ → ℕ
 placeAt l i = getD l i 0
 
--- f at p, p + 1, and so on, n in all.
-unfoldable pub entriesOf : {A : Type 0} → (ℕ → A) → ℕ → ℕ → List A
-entriesOf f p zero = []
-entriesOf f p (suc n) = f p ∷ entriesOf f (suc p) n
-
 abbrev pub tasksFrom : List ℕ → List NumberedTask
-tasksFrom l = entriesOf (numberedAt l) 0 32
+tasksFrom l = entries (numberedAt l) 0 32
 
 abbrev pub chainFrom : List ℕ → List ℕ
-chainFrom l = entriesOf (placeAt l) 0 12
+chainFrom l = entries (placeAt l) 0 12
 
 -- A list whose length is no multiple of four, or that holds fewer tasks than are counted, gives a schedule of no tasks, which is refused with 8;
 -- so does a list that holds fewer places than are counted.

@@ -1,7 +1,7 @@
 -- What making leaves, as C gets it; and every refusal fits one number.
 use Prim.Native.Nat.{ℕ, _-_, _≤_, _<_}
 use native.Mathlib.Omega.{arith}
-use mathlib.Core.Path.{_≡_, refl, sym, ap, _∙_, subst}
+use mathlib.Core.Path.{_≡_, sym, ap, _∙_, subst}
 use mathlib.Core.Bool.{Bool, true, false, cond, _&&_}
 use mathlib.Core.List.{List}
 use lib.Dec.{leb, eqb}
@@ -20,16 +20,14 @@ use Rattle.maker.specs.declared.Made.the-variants.{Whole, Short, Refused}
 use Rattle.maker.specs.Making.{afterChecks, judged, figuresOf, madeAfter, Makes}
 use Rattle.capi_maker.specs.Calls.{madeCode, madeNumbers, GivesTable}
 
-pub gives : (c c₀ : Chain) → c ≡ c₀ → (p : ℕ) (s l s′ l′ : List ℕ) (m : Made) → Makes c p s l s′ l′ m → (code : ℕ) (numbers : List ℕ) → code ≡ madeCode m → numbers ≡ madeNumbers m
-    → GivesTable c₀ p s l code s′ l′ numbers
-gives c c₀ e p s l s′ l′ m makes code numbers a b =
-    let k : Makes c₀ p s l s′ l′ m = subst (λ (x : Chain). Makes x p s l s′ l′ m) e makes in
-    record {
-      answers = a ∙ ap madeCode (k .answer);
-      gives-figures = b ∙ ap madeNumbers (k .answer);
-      leaves-starts = k .leaves-starts;
-      leaves-latencies = k .leaves-latencies;
-    }
+pub gives : (c : Chain) (p : ℕ) (s l s′ l′ : List ℕ) (m : Made) → Makes c p s l s′ l′ m → (code : ℕ) (numbers : List ℕ) → code ≡ madeCode m → numbers ≡ madeNumbers m
+    → GivesTable c p s l code s′ l′ numbers
+gives c p s l s′ l′ m makes code numbers a b = record {
+  answers = a ∙ ap madeCode (makes .answer);
+  gives-figures = b ∙ ap madeNumbers (makes .answer);
+  leaves-starts = makes .leaves-starts;
+  leaves-latencies = makes .leaves-latencies;
+}
 
 after-small : (v : Verdict) → SmallVerdict v → (places p a b : ℕ) → SmallVerdict (afterChecks v places p a b)
 after-small (verdict.Refused r) s places p a b = s

@@ -28,7 +28,8 @@ pub extern "C" fn mo_make_table(
 ) -> u64
     ensures { λ r. ⌜ GivesTable (chainFrom (now (tasks .entry)) places) p (now (starts .entry)) (now (latencies .entry)) r (now (starts .exit)) (now (latencies .exit)) (now (figures .exit)) ⌝ }
 {
-    let m = maker::make_table(capi_chain::chain_from(tasks, places), p, starts, latencies);
+    let n = capi_chain::flat_length(tasks.len(), places);
+    let m = maker::make_table_on(&tasks[..n], p, starts, latencies);
     match m {
         Made::Whole(f) => {
             *figures = numbers_of(f);

@@ -49,7 +49,8 @@ fn job_numbers(all: [Job; 12]) -> [u64; 12]
 pub extern "C" fn mo_check(tasks: &[u64], places: usize, hyperperiod: &mut u64) -> u64
     ensures { λ r. ⌜ (r ≡ verdictCode (verdictOf (chainFrom (now (tasks .entry)) places))) × (now (hyperperiod .exit) ≡ verdictHyper (verdictOf (chainFrom (now (tasks .entry)) places))) ⌝ }
 {
-    let v = chain::check(capi_chain::chain_from(tasks, places));
+    let n = capi_chain::flat_length(tasks.len(), places);
+    let v = chain::check_on(&tasks[..n]);
     match v {
         Verdict::Accepted(h) => {
             *hyperperiod = h;
@@ -73,7 +74,8 @@ pub extern "C" fn mo_warm_up(
 ) -> u64
     ensures { λ r. ⌜ GivesWarmUp (warmUpOf (chainFrom (now (tasks .entry)) places)) r (now (jobs .exit)) (now (tick .exit)) (now (hyperperiod .exit)) ⌝ }
 {
-    let w = timing::warm_up(capi_chain::chain_from(tasks, places));
+    let n = capi_chain::flat_length(tasks.len(), places);
+    let w = timing::warm_up_on(&tasks[..n]);
     let all = w.jobs;
     *jobs = job_numbers(all);
     let from = w.tick;
@@ -88,10 +90,8 @@ pub extern "C" fn mo_warm_up(
 pub extern "C" fn mo_delay(tasks: &[u64], places: usize, t: u64, delay: &mut u64) -> u64
     ensures { λ r. ⌜ (r ≡ spanCode (delayOf (chainFrom (now (tasks .entry)) places) t)) × (now (delay .exit) ≡ spanTicks (delayOf (chainFrom (now (tasks .entry)) places) t)) ⌝ }
 {
-    give(
-        timing::delay(capi_chain::chain_from(tasks, places), Tick(t)),
-        delay,
-    )
+    let n = capi_chain::flat_length(tasks.len(), places);
+    give(timing::delay_on(&tasks[..n], Tick(t)), delay)
 }
 
 // Ageing: the age at tick z.
@@ -99,8 +99,6 @@ pub extern "C" fn mo_delay(tasks: &[u64], places: usize, t: u64, delay: &mut u64
 pub extern "C" fn mo_age(tasks: &[u64], places: usize, z: u64, age: &mut u64) -> u64
     ensures { λ r. ⌜ (r ≡ spanCode (ageOf (chainFrom (now (tasks .entry)) places) z)) × (now (age .exit) ≡ spanTicks (ageOf (chainFrom (now (tasks .entry)) places) z)) ⌝ }
 {
-    give(
-        timing::age(capi_chain::chain_from(tasks, places), Tick(z)),
-        age,
-    )
+    let n = capi_chain::flat_length(tasks.len(), places);
+    give(timing::age_on(&tasks[..n], Tick(z)), age)
 }

@@ -1,7 +1,7 @@
 -- What windows of jobs answer, as C gets it; and every refusal fits one number.
 use Prim.Native.Nat.{ℕ, _+_, _*_, _≤_, _<_}
 use native.Mathlib.Omega.{arith}
-use mathlib.Core.Path.{_≡_, sym, ap, _∙_, subst}
+use mathlib.Core.Path.{_≡_, sym, ap, _∙_}
 use mathlib.Core.Bool.{Bool, true, false, cond, _&&_}
 use mathlib.Core.List.{[], _∷_}
 use lib.Dec.{leb}
@@ -19,17 +19,15 @@ use Rattle.windows.specs.declared.Windows.the-variants.{Most, Refused}
 use Rattle.windows.specs.Windows.{told, toldAfter, afterLimits, judged, Answers}
 use Rattle.capi_windows.specs.Calls.{windowNumbers, GivesWindows}
 
-module _ (c c₀ : Chain) (same : c ≡ c₀) (B k : ℕ) (w : Windows) (right : Answers c B k w) where
+module _ (c : Chain) (B k : ℕ) (w : Windows) (right : Answers c B k w) where
   -- the numbers of an answer
-  gives : (code : ℕ) → code ≡ told w .number + 256 * told w .place → GivesWindows c₀ B k code (told w .misses) (told w .first)
-  gives code e =
-      let a : Answers c₀ B k w = subst (λ (x : Chain). Answers x B k w) same right in
-      record { answers = ap (λ (x : ℕ). x ∷ told w .misses ∷ told w .first ∷ []) e ∙ ap windowNumbers (a .tells); chosen = a .first }
+  gives : (code : ℕ) → code ≡ told w .number + 256 * told w .place → GivesWindows c B k code (told w .misses) (told w .first)
+  gives code e = record { answers = ap (λ (x : ℕ). x ∷ told w .misses ∷ told w .first ∷ []) e ∙ ap windowNumbers (right .tells); chosen = right .first }
 
-  pub gives-most : (m : ℕ) (j : Job) → w ≡ Most m j → GivesWindows c₀ B k 0 m (j .0)
+  pub gives-most : (m : ℕ) (j : Job) → w ≡ Most m j → GivesWindows c B k 0 m (j .0)
   gives-most m j e = rw e at (gives 0 (rw e))
 
-  pub gives-refusal : (r : Refusal) → w ≡ Refused r → (code : ℕ) → code ≡ codeOf r → GivesWindows c₀ B k code 0 0
+  pub gives-refusal : (r : Refusal) → w ≡ Refused r → (code : ℕ) → code ≡ codeOf r → GivesWindows c B k code 0 0
   gives-refusal r e code q = rw e at (gives code (rw e q))
 
 after-small : (v : Verdict) → SmallVerdict v → (k : ℕ) → SmallVerdict (afterLimits v k)

@@ -17,7 +17,8 @@ pub extern "C" fn mo_windows(
 ) -> u64
     ensures { λ r. ⌜ GivesWindows (chainFrom (now (tasks .entry)) places) b k r (now (misses .exit)) (now (first .exit)) ⌝ }
 {
-    let w = windows::most_misses(capi_chain::chain_from(tasks, places), b, k);
+    let n = capi_chain::flat_length(tasks.len(), places);
+    let w = windows::most_misses_on(&tasks[..n], b, k);
     match w {
         Windows::Most(m, j) => {
             *misses = m;

@@ -1,14 +1,13 @@
 -- What the checks 8, 5 and 7 say of a chain, and the steps of the loops that make them.
 use Prim.Native.Nat.{ℕ, zero, suc, _+_, _-_, _≤_, _<_}
 use native.Mathlib.Omega.{arith}
-use mathlib.Core.Path.{_≡_, refl, sym, ap, _∙_}
+use mathlib.Core.Path.{_≡_, refl, sym}
 use mathlib.Core.Bool.{Bool, true, false, cond, _&&_}
 use mathlib.Core.List.{List, [], _∷_}
 use lib.Dec.{leb}
 use lib.ListN.{length, drop, length-drop, length-take}
-use lib.Seq.{getD-take, getD-drop, length-take-le}
+use lib.Seq.{getD-drop, length-take-le}
 use borrow.Author.Tests.{le-leb, lt-leb, leb-true}
-use Rattle.refusal.specs.declared.Refusal.{Refusal}
 use Rattle.refusal.specs.Refusals.{refusal}
 use Rattle.task.specs.declared.Task.{Task}
 use Rattle.task.specs.Jobs.{withinLimits, Within}
@@ -19,7 +18,7 @@ use Rattle.chain.specs.declared.Verdict.{Verdict}
 use Rattle.chain.specs.declared.Verdict.the-variants.{Accepted, Refused}
 use Rattle.chain.specs.Chains.{tasksOf, at, zeroTask}
 use Rattle.chain.specs.Hyperperiod.{hyperFrom, hyperOf}
-use Rattle.chain.specs.Checks.{firstFault, afterFault, hyperVerdict, verdictOf, Sound, Checked}
+use Rattle.chain.specs.Checks.{firstFault, afterFault, hyperVerdict, verdictFor, verdictOf, verdictIn, Sound, Checked}
 
 -- ---- 5
 
@@ -47,18 +46,9 @@ fault-each (a ∷ l) p i pos f h = go (withinLimits a) refl f (λ g k. fault-eac
     go true e f ih (suc i) h = ih f i (omega arith)
     go false e f ih i h = absurd (omega arith)
 
--- a chain that passes 8 and 5
-pub checked : (c : Chain) → length (c .tasks) ≡ 12 → 1 ≤ c .places → c .places ≤ 12 → firstFault 1 (tasksOf c) ≡ 0 → Checked c
-checked c twelve low high f =
-    let e : length (tasksOf c) ≡ c .places = length-take-le (c .places) (c .tasks) (omega arith) in
-    record { counted = e; sound = record { some = omega arith; few = omega arith; each = λ p h. fault-each (tasksOf c) 1 p (omega arith) f h } }
-
--- a place's task is the array's entry
-pub at-place : (c : Chain) (p : ℕ) → p < c .places → at (tasksOf c) p ≡ at (c .tasks) p
-at-place c p h = getD-take (c .places) (c .tasks) p zeroTask h
-
-pub place-within : (c : Chain) → Checked c → (p : ℕ) → p < c .places → Within (at (c .tasks) p)
-place-within c k p h = rw (at-place c p h) at (k .sound .each p (omega (arith, k .counted)))
+-- a list that passes 8 and 5
+pub sound : (l : List Task) → 1 ≤ length l → length l ≤ 12 → firstFault 1 l ≡ 0 → Sound l
+sound l low high f = record { some = low; few = high; each = λ p h. fault-each l 1 p (omega arith) f h }
 
 -- ---- 7
 
@@ -80,44 +70,67 @@ hyper-above l g = rw (lt-leb (hyperOf l) 60000000 g)
 
 -- ---- all three
 
-module _ (c : Chain) where
-  pub check-low : c .places < 1 → Refused (refusal 8 0) ≡ verdictOf c
-  unfolding verdictOf
-  check-low h = rw (lt-leb 1 (c .places) h)
+module _ (n : ℕ) (l : List Task) where
+  pub check-low : n < 1 → Refused (refusal 8 0) ≡ verdictFor n l
+  unfolding verdictFor
+  check-low h = rw (lt-leb 1 n h)
 
-  pub check-high : 1 ≤ c .places → 12 < c .places → Refused (refusal 8 0) ≡ verdictOf c
-  unfolding verdictOf
-  check-high g h = rw (le-leb 1 (c .places) g, lt-leb (c .places) 12 h)
+  pub check-high : 1 ≤ n → 12 < n → Refused (refusal 8 0) ≡ verdictFor n l
+  unfolding verdictFor
+  check-high g h = rw (le-leb 1 n g, lt-leb n 12 h)
 
-  module _ (low : 1 ≤ c .places) (high : c .places ≤ 12) where
-    pub check-fault : (p : ℕ) → p ≡ firstFault 1 (tasksOf c) → (p ≡ 0 → ⊥) → Refused (refusal 5 p) ≡ verdictOf c
-    unfolding verdictOf
-    check-fault zero e n = absurd (n refl)
-    check-fault (suc p) e n = rw (le-leb 1 (c .places) low, le-leb (c .places) 12 high, sym e)
+  module _ (low : 1 ≤ n) (high : n ≤ 12) where
+    pub check-fault : (p : ℕ) → p ≡ firstFault 1 l → (p ≡ 0 → ⊥) → Refused (refusal 5 p) ≡ verdictFor n l
+    unfolding verdictFor
+    check-fault zero e k = absurd (k refl)
+    check-fault (suc p) e k = rw (le-leb 1 n low, le-leb n 12 high, sym e)
 
-    pub check-hyper : 0 ≡ firstFault 1 (tasksOf c) → hyperVerdict (tasksOf c) ≡ verdictOf c
-    unfolding verdictOf
-    check-hyper e = rw (le-leb 1 (c .places) low, le-leb (c .places) 12 high, sym e)
+    pub check-hyper : 0 ≡ firstFault 1 l → hyperVerdict l ≡ verdictFor n l
+    unfolding verdictFor
+    check-hyper e = rw (le-leb 1 n low, le-leb n 12 high, sym e)
 
-  -- what an accepted chain has
-  pub record Facts (h : ℕ) : Type 0 where
-    pub passes : Checked c
-    pub hyper : h ≡ hyperOf (tasksOf c)
-    pub small : h ≤ 60000000
+  -- what is known where the checks accept
+  record Passed (h : ℕ) : Type 0 where
+    low : 1 ≤ n
+    high : n ≤ 12
+    no-fault : firstFault 1 l ≡ 0
+    hyper : h ≡ hyperOf l
+    small : h ≤ 60000000
 
-  pub accepted : (h : ℕ) → length (c .tasks) ≡ 12 → verdictOf c ≡ Accepted h → Facts h
-  unfolding verdictOf hyperVerdict
-  accepted h twelve e = go (leb 1 (c .places)) (leb (c .places) 12) (firstFault 1 (tasksOf c)) (leb (hyperOf (tasksOf c)) 60000000) refl refl refl refl e
+  passed : (h : ℕ) → verdictFor n l ≡ Accepted h → Passed h
+  unfolding verdictFor hyperVerdict
+  passed h e = go (leb 1 n) (leb n 12) (firstFault 1 l) (leb (hyperOf l) 60000000) refl refl refl refl e
     where
-      go : (a b : Bool) (f : ℕ) (d : Bool) → leb 1 (c .places) ≡ a → leb (c .places) 12 ≡ b → firstFault 1 (tasksOf c) ≡ f → leb (hyperOf (tasksOf c)) 60000000 ≡ d
-          → cond (a && b) (afterFault f (cond d (Accepted (hyperOf (tasksOf c))) (Refused (refusal 7 0)))) (Refused (refusal 8 0)) ≡ Accepted h → Facts h
+      go : (a b : Bool) (f : ℕ) (d : Bool) → leb 1 n ≡ a → leb n 12 ≡ b → firstFault 1 l ≡ f → leb (hyperOf l) 60000000 ≡ d
+          → cond (a && b) (afterFault f (cond d (Accepted (hyperOf l)) (Refused (refusal 7 0)))) (Refused (refusal 8 0)) ≡ Accepted h → Passed h
       go true true zero true x y f d k =
-          let z : hyperOf (tasksOf c) ≡ h = cc in
-          record { passes = checked c twelve (leb-true _ _ x) (leb-true _ _ y) f; hyper = sym z; small = omega (arith, leb-true (hyperOf (tasksOf c)) 60000000 d) }
+          let z : hyperOf l ≡ h = cc in
+          record { low = leb-true _ _ x; high = leb-true _ _ y; no-fault = f; hyper = sym z; small = omega (arith, leb-true (hyperOf l) 60000000 d) }
       go true true zero false x y f d k = absurd (let z : _≡_ {A = ℕ} 0 1 = cc in omega arith)
       go true true (suc p) b x y f d k = absurd (let z : _≡_ {A = ℕ} 0 1 = cc in omega arith)
       go true false p b x y f d k = absurd (let z : _≡_ {A = ℕ} 0 1 = cc in omega arith)
       go false t p b x y f d k = absurd (let z : _≡_ {A = ℕ} 0 1 = cc in omega arith)
+
+-- what an accepted list of tasks has
+pub record FactsIn (l : List Task) (h : ℕ) : Type 0 where
+  pub sound : Sound l
+  pub hyper : h ≡ hyperOf l
+  pub small : h ≤ 60000000
+
+pub accepted-in : (l : List Task) (h : ℕ) → verdictIn l ≡ Accepted h → FactsIn l h
+accepted-in l h e = let k = passed (length l) l h e in record { sound = sound l (k .low) (k .high) (k .no-fault); hyper = k .hyper; small = k .small }
+
+-- and an accepted chain
+pub record Facts (c : Chain) (h : ℕ) : Type 0 where
+  pub passes : Checked c
+  pub hyper : h ≡ hyperOf (tasksOf c)
+  pub small : h ≤ 60000000
+
+pub accepted : (c : Chain) (h : ℕ) → length (c .tasks) ≡ 12 → verdictOf c ≡ Accepted h → Facts c h
+accepted c h twelve e =
+    let k = passed (c .places) (tasksOf c) h e in
+    let n : length (tasksOf c) ≡ c .places = length-take-le (c .places) (c .tasks) (omega (arith, k .high)) in
+    record { passes = record { counted = n; sound = sound (tasksOf c) (omega (arith, k .low)) (omega (arith, k .high)) (k .no-fault) }; hyper = k .hyper; small = k .small }
 
 -- the periods of what is left of the tasks
 pub rest-periods : (l : List Task) → Sound l → (i p : ℕ) → p < length (drop i l) → 1 ≤ at (drop i l) p .period
@@ -142,7 +155,7 @@ SmallVerdict (Accepted h) = Unit {0}
 SmallVerdict (Refused r) = (r .number < 256) × (r .place ≤ 100)
 
 pub verdict-small : (c : Chain) → SmallVerdict (verdictOf c)
-unfolding verdictOf hyperVerdict
+unfolding verdictFor hyperVerdict
 verdict-small c = go (leb 1 (c .places)) (leb (c .places) 12) (firstFault 1 (tasksOf c)) (leb (hyperOf (tasksOf c)) 60000000) refl (fault-small (tasksOf c) 1)
   where
     go : (a b : Bool) (f : ℕ) (d : Bool) → leb (c .places) 12 ≡ b → f ≤ 1 + length (tasksOf c)

@@ -1,16 +1,18 @@
 -- A flat list that is filled a task at a time: the front that is filled holds the first tasks.
 use Prim.Native.Nat.{ℕ, zero, suc, _+_, _*_, _≤_, _<_}
 use native.Mathlib.Omega.{arith}
+use native.Mathlib.Decide.{decLt}
 use native.Mathlib.Numerals.{add-one}
 use mathlib.Core.Path.{_≡_, refl, sym, ap, _∙_}
 use mathlib.Core.List.{List, [], _∷_, _++_, append-assoc, append-nil}
-use lib.ListN.{length, getD, set, take, length-append, length-set, length-take}
+use lib.ListN.{length, getD, set, take, length-append, length-set}
 use lib.Seq.{take-all, take-suc-set, length-take-le}
+use borrow.Author.Tests.{le-ltb, lt-ltb}
 use Rattle.task.specs.declared.Task.{Task}
 use Rattle.chain.specs.declared.Chain.{Chain}
-use Rattle.chain.specs.Chains.{tasksOf, at, zeroTask}
-use Rattle.chain.specs.Checks.{Sound, Checked}
-use Rattle.chain.specs.Flat.{flatOf, taskFields, flatChain, tasksIn, flat-front}
+use Rattle.chain.specs.Chains.{at, zeroTask}
+use Rattle.chain.specs.Flat.{flatOf, taskFields, flatChain, flatLength, tasksIn}
+use Rattle.chain.specs.StandsFor.{StandsFor, front-stands}
 
 -- of elements that have k numbers each
 module _ {A : Type 0} (f : A → List ℕ) (k : ℕ) (each : (x : A) → length (f x) ≡ k) where
@@ -55,17 +57,25 @@ flat-end l list i h g e = sym (take-all (3 * i) list g) ∙ e ∙ ap flatChain (
 pub kept : (l : List ℕ) (n i j k a b c : ℕ) → length l ≡ n → length (set (set (set l i a) j b) k c) ≡ n
 kept l n i j k a b c h = simp length-set h
 
--- ---- the front of a chain's flat list, as the code shares it
+-- ---- how much of it is lent
 
-module _ (c : Chain) (k : Checked c) (list : List ℕ) (filled : list ≡ flatChain (c .tasks)) where
-  pub front-is : tasksIn (take (3 * c .places) list) ≡ tasksOf c
-  front-is = ap (λ (x : List ℕ). tasksIn (take (3 * c .places) x)) filled ∙ flat-front c
+pub long-length : (n : ℕ) → 12 < n → 0 ≡ flatLength n
+long-length n h = rw (lt-ltb 12 n h)
 
-  pub front-sound : Sound (tasksIn (take (3 * c .places) list))
-  front-sound = rw front-is (k .sound)
+pub short-length : (n : ℕ) → n ≤ 12 → 3 * n ≡ flatLength n
+short-length n h = rw (le-ltb 12 n h)
 
-  pub front-count : length (tasksIn (take (3 * c .places) list)) ≡ c .places
-  front-count = rw front-is (k .counted)
+-- what is known of the lent front of a chain's flat list
+pub record Lent (c : Chain) (list : List ℕ) (n : ℕ) : Type 0 where
+  pub inside : n ≤ length list
+  pub long : n ≡ length (take n list)
+  pub stands : StandsFor (tasksIn (take n list)) c
 
-  pub front-length : 3 * c .places ≡ length (take (3 * c .places) list)
-  front-length = sym (length-take-le (3 * c .places) list (omega (arith, ap length filled, length-flat taskFields 3 (λ x. refl) (c .tasks), length-take (c .places) (c .tasks), k .counted)))
+pub lent : (c : Chain) → length (c .tasks) ≡ 12 → (list : List ℕ) → list ≡ flatChain (c .tasks) → (n : ℕ) → n ≡ flatLength (c .places) → Lent c list n
+lent c twelve list filled n cut =
+    let all : length list ≡ 3 * length (c .tasks) = ap length filled ∙ length-flat taskFields 3 (λ x. refl) (c .tasks) in
+    let inside : n ≤ length list = elim (decLt 12 (c .places)) [
+      | yes u ↦ omega (arith, long-length (c .places) u)
+      | no u ↦ omega (arith, short-length (c .places) (omega arith))
+    ] in
+    record { inside = inside; long = sym (length-take-le n list inside); stands = front-stands c twelve list filled n cut }

@@ -1,7 +1,7 @@
 -- Document 01, "Refusals, call by call": the checks 8, 5 and 7 of a chain to be analysed. A chain is accepted where none of them refuses it.
 use Prim.Native.Nat.{ℕ, zero, suc, _+_, _≤_, _<_}
 use mathlib.Core.Path.{_≡_}
-use mathlib.Core.Bool.{Bool, cond, _&&_}
+use mathlib.Core.Bool.{cond, _&&_}
 use mathlib.Core.List.{List, [], _∷_}
 use lib.Dec.{leb}
 use lib.ListN.{length}
@@ -28,12 +28,19 @@ afterFault (suc p) v = Refused (refusal 5 (suc p))
 unfoldable pub hyperVerdict : List Task → Verdict
 hyperVerdict l = cond (leb (hyperOf l) 60000000) (Accepted (hyperOf l)) (Refused (refusal 7 0))
 
--- 8, places not 1 to 12; 5, lowest position; 7, H above its limit.
-unfoldable pub verdictOf : Chain → Verdict
-verdictOf c =
-    cond (leb 1 (c .places) && leb (c .places) 12)
-    (afterFault (firstFault 1 (tasksOf c)) (hyperVerdict (tasksOf c)))
+-- 8, places not 1 to 12; 5, lowest position; 7, H above its limit. n is the number of places, l holds the tasks at them.
+unfoldable pub verdictFor : ℕ → List Task → Verdict
+verdictFor n l =
+    cond (leb 1 n && leb n 12)
+    (afterFault (firstFault 1 l) (hyperVerdict l))
     (Refused (refusal 8 0))
+
+abbrev pub verdictOf : Chain → Verdict
+verdictOf c = verdictFor (c .places) (tasksOf c)
+
+-- The same of a list of tasks, one for each place.
+abbrev pub verdictIn : List Task → Verdict
+verdictIn l = verdictFor (length l) l
 
 -- What 8 and 5 leave of the tasks at the places, as facts.
 pub record Sound (l : List Task) : Type 0 where

@@ -2,7 +2,9 @@
 use Prim.Native.Nat.{ℕ, zero, suc, _+_, _-_, _*_, _/_, _≤_, _<_}
 use native.Mathlib.Omega.{arith}
 use mathlib.Core.Path.{_≡_, refl, ap, _∙_}
+use mathlib.Core.Bool.{cond}
 use mathlib.Core.List.{List, [], _∷_, _++_}
+use lib.Dec.{ltb}
 use lib.ListN.{length, getD, take}
 use Rattle.task.specs.declared.Task.{Task}
 use Rattle.chain.specs.declared.Chain.{Chain}
@@ -25,6 +27,10 @@ tasksIn [] = []
 tasksIn (t ∷ []) = []
 tasksIn (t ∷ d ∷ []) = []
 tasksIn (t ∷ d ∷ f ∷ l) = record { period = t; duration = d; phase = f } ∷ tasksIn l
+
+-- How many numbers of a chain's flat list hold the tasks at its places; none of a chain that has too many places.
+abbrev pub flatLength : ℕ → ℕ
+flatLength n = cond (ltb 12 n) 0 (3 * n)
 
 -- ---- their number
 
@@ -64,7 +70,7 @@ at-in (t ∷ d ∷ f ∷ l) (suc i) h =
 
 -- ---- there and back
 
-in-flat : (l : List Task) → tasksIn (flatChain l) ≡ l
+pub in-flat : (l : List Task) → tasksIn (flatChain l) ≡ l
 unfolding tasksIn flatOf
 in-flat [] = refl
 in-flat (a ∷ l) = ap (λ (r : List Task). a ∷ r) (in-flat l)

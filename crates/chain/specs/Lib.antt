@@ -1,7 +1,9 @@
 pub mod Chains
 pub mod Flat
+pub mod Entries
 pub mod Hyperperiod
 pub mod Checks
+pub mod StandsFor
 pub mod Multiples
 pub mod Galois
 pub mod GaloisPair

@@ -1,5 +1,6 @@
-// A chain of tasks by value: its checks, its hyperperiod, and the ways forward and backward along its places.
-// `check` is an entry point: it takes any chain. The ways are for the crates above, on chains that it accepted; they count places from 0.
+// A chain of tasks: its checks, its hyperperiod, and the ways forward and backward along its places.
+// A chain is a value; what walks it takes its tasks as a flat list of numbers, which is lent and not copied.
+// `check` and `check_on` are entry points: they take any chain and any list. The ways are for the crates above, on lists that passed 8 and 5; they count places from 0.
 use refusal::Refusal;
 use task::Job;
 use task::Latest;
@@ -8,9 +9,9 @@ ghost use mathlib.Core.Path.{_≡_};
 ghost use Prim.Native.Nat.{_+_, _*_, _-_, _≤_, _<_};
 ghost use lib.ListN.{length};
 ghost use Rattle.task.specs.Jobs.{readOf, writeOf};
-ghost use Rattle.chain.specs.Chains.{tasksOf, at, lastPlace, forwardBy, backwardBy, jobOf};
-ghost use Rattle.chain.specs.Checks.{firstFault, hyperVerdict, verdictOf, Sound, Checked};
-ghost use Rattle.chain.specs.Flat.{flatChain, tasksIn};
+ghost use Rattle.chain.specs.Chains.{at, forwardBy, backwardBy, jobOf};
+ghost use Rattle.chain.specs.Checks.{firstFault, hyperVerdict, verdictOf, verdictIn, Sound};
+ghost use Rattle.chain.specs.Flat.{flatChain, flatLength, tasksIn};
 
 // Document 01: one chain of 1 to 12 places; a task may fill several. Entries of `tasks` from `places` on are no part of the chain.
 pub struct Chain {
@@ -22,74 +23,6 @@ pub struct Chain {
 pub enum Verdict {
     Accepted(u64),
     Refused(Refusal),
-}
-
-// ---- the checks
-
-// The lowest position whose task has a value outside its limits, or 0.
-fn first_fault(c: Chain) -> usize
-    requires { ⌜ c .places ≤ 12 ⌝ }
-    ensures { λ r. ⌜ r ≡ firstFault 1 (tasksOf c) ⌝ }
-{
-    let n = c.places;
-    let mut i: usize = 0;
-    while i < n {
-        let a = c.tasks[i];
-        if a.within_limits() {
-            i += 1;
-        } else {
-            return i + 1;
-        }
-    }
-    0
-}
-
-// Accepted with the hyperperiod, or 7. The multiple only grows, so the first value above the limit decides.
-fn hyper_verdict(c: Chain) -> Verdict
-    requires { ⌜ Checked c ⌝ }
-    ensures { λ r. ⌜ r ≡ hyperVerdict (tasksOf c) ⌝ }
-{
-    let n = c.places;
-    let mut h: u64 = 1;
-    let mut i: usize = 0;
-    while i < n {
-        let a = c.tasks[i];
-        h = euclid::lcm(h, a.period);
-        if 60000000 < h {
-            return Verdict::Refused(Refusal {
-                number: 7,
-                place: 0,
-            });
-        }
-        i += 1;
-    }
-    Verdict::Accepted(h)
-}
-
-// The checks of a chain to be analysed, in document 01's order: 8, 5, 7.
-pub fn check(c: Chain) -> Verdict
-    ensures { λ r. ⌜ r ≡ verdictOf c ⌝ }
-{
-    if c.places < 1 {
-        return Verdict::Refused(Refusal {
-            number: 8,
-            place: 0,
-        });
-    }
-    if 12 < c.places {
-        return Verdict::Refused(Refusal {
-            number: 8,
-            place: 0,
-        });
-    }
-    let p = first_fault(c);
-    if p != 0 {
-        return Verdict::Refused(Refusal {
-            number: 5,
-            place: p,
-        });
-    }
-    hyper_verdict(c)
 }
 
 // ---- the tasks as a flat list
@@ -110,6 +43,16 @@ pub fn flat(c: Chain) -> [u64; 36]
     list
 }
 
+// How many numbers of a chain's flat list are lent to the calls that take such a list. Of a chain of more than 12 places it is none, since an empty list is refused with 8 as well.
+pub fn flat_length(places: usize) -> usize
+    ensures { λ r. ⌜ r ≡ flatLength places ⌝ }
+{
+    if 12 < places {
+        return 0;
+    }
+    3 * places
+}
+
 // The task at place i of a flat list.
 pub fn task_at(tasks: &[u64], i: usize) -> Task
     requires { ⌜ (i < length (tasksIn (now tasks))) × (i < 12) ⌝ }
@@ -121,6 +64,84 @@ pub fn task_at(tasks: &[u64], i: usize) -> Task
         duration: tasks[k + 1],
         phase: tasks[k + 2],
     }
+}
+
+// ---- the checks
+
+// The lowest position whose task has a value outside its limits, or 0.
+fn first_fault(tasks: &[u64]) -> usize
+    requires { ⌜ length (tasksIn (now tasks)) ≤ 12 ⌝ }
+    ensures { λ r. ⌜ r ≡ firstFault 1 (tasksIn (now (tasks .entry))) ⌝ }
+{
+    let n = tasks.len() / 3;
+    let mut i: usize = 0;
+    while i < n {
+        let a = task_at(tasks, i);
+        if a.within_limits() {
+            i += 1;
+        } else {
+            return i + 1;
+        }
+    }
+    0
+}
+
+// Accepted with the hyperperiod, or 7. The multiple only grows, so the first value above the limit decides.
+fn hyper_verdict(tasks: &[u64]) -> Verdict
+    requires { ⌜ Sound (tasksIn (now tasks)) ⌝ }
+    ensures { λ r. ⌜ r ≡ hyperVerdict (tasksIn (now (tasks .entry))) ⌝ }
+{
+    let n = tasks.len() / 3;
+    let mut h: u64 = 1;
+    let mut i: usize = 0;
+    while i < n {
+        let a = task_at(tasks, i);
+        h = euclid::lcm(h, a.period);
+        if 60000000 < h {
+            return Verdict::Refused(Refusal {
+                number: 7,
+                place: 0,
+            });
+        }
+        i += 1;
+    }
+    Verdict::Accepted(h)
+}
+
+// The checks of a flat list of tasks, one for each place, in document 01's order: 8, 5, 7.
+pub fn check_on(tasks: &[u64]) -> Verdict
+    ensures { λ r. ⌜ r ≡ verdictIn (tasksIn (now (tasks .entry))) ⌝ }
+{
+    let n = tasks.len() / 3;
+    if n < 1 {
+        return Verdict::Refused(Refusal {
+            number: 8,
+            place: 0,
+        });
+    }
+    if 12 < n {
+        return Verdict::Refused(Refusal {
+            number: 8,
+            place: 0,
+        });
+    }
+    let p = first_fault(tasks);
+    if p != 0 {
+        return Verdict::Refused(Refusal {
+            number: 5,
+            place: p,
+        });
+    }
+    hyper_verdict(tasks)
+}
+
+// The checks of a chain to be analysed.
+pub fn check(c: Chain) -> Verdict
+    ensures { λ r. ⌜ r ≡ verdictOf c ⌝ }
+{
+    let tasks = flat(c);
+    let n = flat_length(c.places);
+    check_on(&tasks[..n])
 }
 
 // ---- the ways along the tasks of a chain that passes 8 and 5, as a flat list
@@ -165,28 +186,6 @@ pub fn backward_on(tasks: &[u64], p: usize, q: usize, m: Job) -> Latest
         }
     }
     Latest::Of(k)
-}
-
-// ---- the same along a chain by value
-
-// From job j at place p forward to place q.
-pub fn forward(c: Chain, p: usize, q: usize, j: Job) -> Job
-    requires { ⌜ (Checked c) × (p ≤ q) × (q < c .places) × (writeOf (at (tasksOf c) p) (j .0) ≤ 1500000000000) ⌝ }
-    ensures { λ r. ⌜ r .0 ≡ forwardBy (tasksOf c) p (q - p) (j .0) ⌝ }
-{
-    let tasks = flat(c);
-    let n = 3 * c.places;
-    forward_on(&tasks[..n], p, q, j)
-}
-
-// From job m at place q backward to place p; there may be none.
-pub fn backward(c: Chain, p: usize, q: usize, m: Job) -> Latest
-    requires { ⌜ (Checked c) × (p ≤ q) × (q < c .places) × (readOf (at (tasksOf c) q) (m .0) ≤ 1500000000000) ⌝ }
-    ensures { λ r. ⌜ r ≡ backwardBy (tasksOf c) p (q - p) (m .0) ⌝ }
-{
-    let tasks = flat(c);
-    let n = 3 * c.places;
-    backward_on(&tasks[..n], p, q, m)
 }
 
 // The job found, and 0 where there is none.

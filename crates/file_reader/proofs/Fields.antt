@@ -1,14 +1,14 @@
 -- The numbers of a chain record, one after the other.
 use Prim.Native.Nat.{ℕ, zero, suc, _+_, _-_, _*_, _≤_, _<_}
 use native.Mathlib.Omega.{arith}
-use mathlib.Core.Path.{_≡_, refl, sym, ap, _∙_}
-use mathlib.Core.Bool.{Bool, true, false, cond}
+use mathlib.Core.Path.{_≡_, sym, ap, _∙_}
+use mathlib.Core.Bool.{true, false}
 use mathlib.Core.List.{List, [], _∷_, _++_}
 use lib.ListN.{length, getD, set, take, replicate}
 use lib.Seq.{getD-take, length-take-le}
 use Rattle.little_endian.specs.LittleEndian.{numberAt}
 use Rattle.schedule.specs.declared.NumberedTask.{NumberedTask}
-use Rattle.schedule.specs.Schedules.{known, positionOf, padded}
+use Rattle.schedule.specs.Schedules.{positionOf, padded}
 use Rattle.schedule.specs.Padding.{padded-none, padded-set}
 use Rattle.schedule.specs.Numbers.{known-position, unknown-position}
 use Rattle.file_reader.specs.Records.{length-numbers}
@@ -57,9 +57,6 @@ unfolding allKnown numbersFrom
 all-end ns l at n i h = let e : n - i ≡ 0 = omega arith in rw e
 
 -- ---- the last of the first numbers
-
-pub last-none : (ns : List ℕ) → lastOf (take 0 ns) ≡ 0
-last-none ns = refl
 
 pub last-some : (ns : List ℕ) (count : ℕ) → (count ≡ 0 → ⊥) → count ≤ length ns → getD ns (count - 1) 0 ≡ lastOf (take count ns)
 last-some ns count h g =

@@ -1,5 +1,5 @@
 -- Laws of making from a lent list: its chain's tasks are the list, making from it is making from the chain by value, and a list of no record or of more than twelve is refused with 8.
-use Prim.Native.Nat.{ℕ, _-_, _≤_, _<_}
+use Prim.Native.Nat.{ℕ, _≤_, _<_}
 use native.Mathlib.Omega.{arith}
 use native.Mathlib.Decide.{decLe}
 use mathlib.Core.Path.{_≡_, refl, ap, _∙_}
@@ -15,7 +15,7 @@ use Rattle.chain.specs.declared.Chain.{Chain}
 use Rattle.chain.specs.declared.Verdict.{Verdict}
 use Rattle.chain.specs.declared.Verdict.the-variants as verdict
 use Rattle.chain.specs.Chains.{zeroTask, tasksOf}
-use Rattle.chain.specs.Checks.{afterFault, firstFault, hyperVerdict, verdictOf}
+use Rattle.chain.specs.Checks.{afterFault, firstFault, hyperVerdict, verdictFor, verdictOf}
 use Rattle.schedule.specs.Schedules.{padded}
 use Rattle.schedule.specs.Padding.{take-padded}
 use Rattle.table.specs.Anchors.{Anchor}
@@ -38,7 +38,7 @@ places-of-list ts = refl
 -- ---- every other list is refused with 8, and the lists keep their content
 
 pub other-verdict : (ts : List Task) → (1 ≤ length ts → length ts ≤ 12 → ⊥) → verdictOf (chainOfList ts) ≡ verdict.Refused (refusal 8 0)
-unfolding chainOfList verdictOf
+unfolding chainOfList verdictFor
 other-verdict [] h = refl
 other-verdict (t ∷ ts) h =
     let many : 12 < length (t ∷ ts) = elim (decLe (length (t ∷ ts)) 12) [
@@ -60,7 +60,7 @@ other-unwritten ts h p a b = rw (other-verdict ts h)
 -- Making depends on a chain's tasks and the number of its places alone.
 module _ (c d : Chain) (same : tasksOf c ≡ tasksOf d) (places : c .places ≡ d .places) where
   same-verdict : verdictOf c ≡ verdictOf d
-  unfolding verdictOf
+  unfolding verdictFor
   same-verdict =
       ap (λ (n : ℕ). cond (leb 1 n && leb n 12) (afterFault (firstFault 1 (tasksOf c)) (hyperVerdict (tasksOf c))) (verdict.Refused (refusal 8 0))) places
       ∙ ap (λ (l : List Task). cond (leb 1 (d .places) && leb (d .places) 12) (afterFault (firstFault 1 l) (hyperVerdict l)) (verdict.Refused (refusal 8 0))) same

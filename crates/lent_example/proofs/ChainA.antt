@@ -7,7 +7,7 @@ use Rattle.task.specs.Jobs.{withinLimits}
 use Rattle.task.specs.Links.{earliestFrom, latestBy, forwardLink, backwardLink}
 use Rattle.euclid.specs.Divisor.{euclid, gcdOf, lcmOf}
 use Rattle.chain.specs.Chains.{forwardBy, onLatest, backwardBy}
-use Rattle.chain.specs.Checks.{firstFault, hyperVerdict, verdictOf}
+use Rattle.chain.specs.Checks.{firstFault, hyperVerdict, verdictFor}
 use Rattle.chain.specs.Hyperperiod.{hyperFrom}
 use Rattle.timing.specs.WarmUp.{leastFrom, warmLast, warmAt, warmTick}
 use Rattle.partition.specs.Lists.{rangeFrom, keep, fresh, dropRepeats}
@@ -27,12 +27,12 @@ abbrev pub wholeA : Made
 wholeA = Whole (record { anchors = 2; tick = record { 0 = 0 }; hyperperiod = 12; walked = 3 })
 
 pub made-of-a : madeOf (chainOfList chainA) 1 3 3 ≡ wholeA
-unfolding chainOfList padded judged madeAfter verdictOf firstFault hyperVerdict withinLimits hyperFrom lcmOf gcdOf euclid warmTick warmAt warmLast leastFrom backwardBy onLatest forwardBy forwardLink backwardLink latestBy earliestFrom rangeFrom keep fresh dropRepeats startOf endOf keeps anchorsFrom
+unfolding chainOfList padded judged madeAfter verdictFor firstFault hyperVerdict withinLimits hyperFrom lcmOf gcdOf euclid warmTick warmAt warmLast leastFrom backwardBy onLatest forwardBy forwardLink backwardLink latestBy earliestFrom rangeFrom keep fresh dropRepeats startOf endOf keeps anchorsFrom
 made-of-a = refl
 
 -- and the anchors (0, 18), (8, 16).
 pub anchors-of-a : writtenOf (chainOfList chainA) 1 3 3 ≡ record { start = 0; latency = 18 } ∷ record { start = 8; latency = 16 } ∷ []
-unfolding chainOfList padded judged writtenAfter verdictOf firstFault hyperVerdict withinLimits hyperFrom lcmOf gcdOf euclid warmAt warmLast leastFrom backwardBy onLatest forwardBy forwardLink backwardLink latestBy earliestFrom rangeFrom keep fresh dropRepeats startOf endOf keeps anchorsFrom
+unfolding chainOfList padded judged writtenAfter verdictFor firstFault hyperVerdict withinLimits hyperFrom lcmOf gcdOf euclid warmAt warmLast leastFrom backwardBy onLatest forwardBy forwardLink backwardLink latestBy earliestFrom rangeFrom keep fresh dropRepeats startOf endOf keeps anchorsFrom
 anchors-of-a = refl
 
 -- So making answers that, and leaves that in two lists of three entries each.

@@ -1,7 +1,7 @@
 -- What holds at each return of `judge` and `make_table`, and what an accepted making has.
-use Prim.Native.Nat.{ℕ, _+_, _-_, _*_, _/_, _≤_, _<_}
+use Prim.Native.Nat.{ℕ, _+_, _-_, _/_, _≤_, _<_}
 use native.Mathlib.Omega.{arith}
-use native.Mathlib.Nat.{div-mul-le-self, div-le-self}
+use native.Mathlib.Nat.{div-mul-le-self}
 use mathlib.Core.Path.{_≡_, refl, sym, ap, _∙_}
 use mathlib.Core.Bool.{Bool, true, false, cond, _&&_}
 use mathlib.Core.List.{List, []}
@@ -12,12 +12,14 @@ use Rattle.refusal.specs.declared.Refusal.{Refusal}
 use Rattle.refusal.specs.Refusals.{refusal}
 use Rattle.task.specs.declared.Task.{Task}
 use Rattle.task.specs.declared.Tick.{Tick}
-use Rattle.task.specs.Jobs.{readOf, writeOf}
+use Rattle.task.specs.Jobs.{writeOf}
 use Rattle.chain.specs.declared.Chain.{Chain}
 use Rattle.chain.specs.declared.Verdict.{Verdict}
 use Rattle.chain.specs.declared.Verdict.the-variants as verdict
 use Rattle.chain.specs.Chains.{tasksOf, at}
-use Rattle.chain.specs.Checks.{verdictOf, Sound, Checked}
+use Rattle.chain.specs.Checks.{verdictOf, verdictIn, Sound}
+use Rattle.chain.specs.Flat.{tasksIn, in-count}
+use Rattle.chain.specs.StandsFor.{StandsFor}
 use Rattle.timing.specs.WarmUp.{warmAt, warmTick}
 use Rattle.timing.specs.WarmRanges.{warm-range}
 use Rattle.partition.specs.Partitions.{anchorsOf}
@@ -26,7 +28,7 @@ use Rattle.maker.specs.declared.Figures.{Figures}
 use Rattle.maker.specs.declared.Made.{Made}
 use Rattle.maker.specs.declared.Made.the-variants.{Whole, Short, Refused}
 use Rattle.maker.specs.Turn.{Filled}
-use Rattle.maker.specs.Making.{afterChecks, judged, figuresOf, madeAfter, writtenAfter, told, toldWith, toldAfter, startsOf, latenciesOf, overlay, Makes}
+use Rattle.maker.specs.Making.{afterChecks, judged, figuresOf, madeAfter, writtenAfter, told, toldWith, toldAfter, startsOf, latenciesOf, overlay, Makes, MakesFor}
 use Rattle.maker.proofs.Lists.{sets-overlay}
 
 module _ (h places p a b : ℕ) where
@@ -51,19 +53,35 @@ after-same : (v : Verdict) (places p a b : ℕ) → afterChecks v places p a b �
 after-same (verdict.Refused r) places p a b = refl
 after-same (verdict.Accepted h) places p a b = refl
 
--- what is known of a making that is accepted
-pub record Well (c : Chain) (p a b h : ℕ) : Type 0 where
-  pub whole : verdictOf c ≡ verdict.Accepted h
+-- what the checks say of a list of tasks
+abbrev pub judgedIn : List Task → ℕ → ℕ → ℕ → Verdict
+judgedIn t p a b = afterChecks (verdictIn t) (length t) p a b
+
+-- of a flat list, v being what the chain's own checks say
+pub judge-in : (list : List ℕ) (v : Verdict) → v ≡ verdictIn (tasksIn list) → (p a b : ℕ) → afterChecks v (length list / 3) p a b ≡ judgedIn (tasksIn list) p a b
+judge-in list v e p a b = rw (e, in-count list)
+
+-- they say it of the chain that the list stands for
+judged-stands : (t : List Task) (c : Chain) → StandsFor t c → (p a b : ℕ) → judgedIn t p a b ≡ judged c p a b
+unfolding judged
+judged-stands t c st p a b = ap (λ (v : Verdict). afterChecks v (length t) p a b) (st .verdict) ∙ go (verdictOf c) refl
+  where
+    go : (v : Verdict) → verdictOf c ≡ v → afterChecks v (length t) p a b ≡ afterChecks v (c .places) p a b
+    go (verdict.Accepted h) e = ap (λ (n : ℕ). afterChecks (verdict.Accepted h) n p a b) (st .places h e)
+    go (verdict.Refused r) e = refl
+
+-- what is known of a making that is accepted, v being what the chain's own checks say and n the number of places
+pub record Well (v : Verdict) (n p a b h : ℕ) : Type 0 where
+  pub whole : v ≡ verdict.Accepted h
   pub low : 1 ≤ p
-  pub high : p ≤ c .places
+  pub high : p ≤ n
   pub equal : a ≡ b
 
-pub well : (c : Chain) (p a b h : ℕ) → judged c p a b ≡ verdict.Accepted h → Well c p a b h
-unfolding judged
-well c p a b h r = go (verdictOf c) (leb 1 p) (leb p (c .places)) (eqb a b) refl refl refl refl (sym (after-same (verdictOf c) (c .places) p a b) ∙ r)
+pub well : (v : Verdict) (n p a b h : ℕ) → afterChecks v n p a b ≡ verdict.Accepted h → Well v n p a b h
+well v n p a b h r = go v (leb 1 p) (leb p n) (eqb a b) refl refl refl refl (sym (after-same v n p a b) ∙ r)
   where
-    go : (v : Verdict) (x y z : Bool) → verdictOf c ≡ v → leb 1 p ≡ x → leb p (c .places) ≡ y → eqb a b ≡ z
-        → after v x y z ≡ verdict.Accepted h → Well c p a b h
+    go : (w : Verdict) (x y z : Bool) → v ≡ w → leb 1 p ≡ x → leb p n ≡ y → eqb a b ≡ z
+        → after w x y z ≡ verdict.Accepted h → Well v n p a b h
     go (verdict.Accepted k) true true true e l t m q = let u : k ≡ h = cc in record { whole = e ∙ ap verdict.Accepted u; low = leb-true _ _ l; high = leb-true _ _ t; equal = eqb-true a b m }
     go (verdict.Accepted k) true true false e l t m q = absurd (let u : _≡_ {A = ℕ} 0 1 = cc in omega arith)
     go (verdict.Accepted k) true false z e l t m q = absurd (let u : _≡_ {A = ℕ} 0 1 = cc in omega arith)
@@ -75,10 +93,6 @@ pub range-fits : (l : List Task) → Sound l → (p h : ℕ) → p < length l �
 range-fits l ok p h g s =
     let w = ok .each p g in
     omega (arith, warm-range l ok p g, div-mul-le-self h (at l p .period), w .period-max, w .duration-max)
-
--- what the loop leaves for a list of tasks that is another by name only
-pub filled-on : (t l : List Task) → t ≡ l → {p m n : ℕ} {x y x′ y′ : List ℕ} {r : Count} → Filled t p m n x y x′ y′ r → Filled l p m n x y x′ y′ r
-filled-on t l e f = rw e at f
 
 -- an answer tells its number, place and figures
 tells-so : (c : Chain) (p a : ℕ) (v : Verdict) (r : Made) → r ≡ madeAfter c p a v → told r ≡ toldAfter c p a v
@@ -96,30 +110,50 @@ module _ (c : Chain) (p : ℕ) (s l : List ℕ) where
       → s′ ≡ overlay (startsOf (writtenAfter c p v)) s → l′ ≡ overlay (latenciesOf (writtenAfter c p v)) l → Makes c p s l s′ l′ r
   finish v r s′ l′ e a f g = record { answer = rw e a; tells = rw e (tells-so c p (length s) v r a); leaves-starts = rw e f; leaves-latencies = rw e g }
 
-  pub made-refused : (r : Refusal) → judged c p (length s) (length l) ≡ verdict.Refused r → Makes c p s l s l (Refused r)
+  refused : (r : Refusal) → judged c p (length s) (length l) ≡ verdict.Refused r → Makes c p s l s l (Refused r)
   unfolding madeAfter writtenAfter
-  made-refused r e = finish (verdict.Refused r) (Refused r) s l e refl (sets-overlay [] s) (sets-overlay [] l)
+  refused r e = finish (verdict.Refused r) (Refused r) s l e refl (sets-overlay [] s) (sets-overlay [] l)
 
-  module _ (h m n : ℕ) (x : Tick) (s′ l′ : List ℕ) (f : Count) (e : judged c p (length s) (length l) ≡ verdict.Accepted h) (w : m ≡ warmAt (tasksOf c) (p - 1)) (t : x .0 ≡ warmTick (tasksOf c))
-      (u : n ≡ h / at (tasksOf c) (p - 1) .period) (all : Filled (tasksOf c) (p - 1) m n s l s′ l′ f) where
+  -- t holds the tasks at the chain's places
+  module _ (h m n : ℕ) (x : Tick) (s′ l′ : List ℕ) (f : Count) (e : judged c p (length s) (length l) ≡ verdict.Accepted h) (t : List Task) (same : t ≡ tasksOf c) (w : m ≡ warmAt t (p - 1)) (k : x .0 ≡ warmTick t)
+      (u : n ≡ h / at t (p - 1) .period) (all : Filled t (p - 1) m n s l s′ l′ f) where
     filled : Filled (tasksOf c) (p - 1) (warmAt (tasksOf c) (p - 1)) (h / at (tasksOf c) (p - 1) .period) s l s′ l′ f
-    filled = rw (w, u) at all
+    filled = rw (w, u, same) at all
 
     made : ℕ → ℕ → ℕ → Figures
-    made g y k = record { anchors = g; tick = record { 0 = y }; hyperperiod = h; walked = k }
+    made g y i = record { anchors = g; tick = record { 0 = y }; hyperperiod = h; walked = i }
 
     figures : _≡_ {A = Figures} (record { anchors = f .anchors; tick = x; hyperperiod = h; walked = f .walked }) (figuresOf c p h)
     unfolding made
     figures =
-        ap (λ (g : ℕ). made g (x .0) (f .walked)) (filled .anchors) ∙ ap (λ (y : ℕ). made (length (anchorsOf (tasksOf c) (p - 1) h)) y (f .walked)) t
-        ∙ ap (λ (k : ℕ). made (length (anchorsOf (tasksOf c) (p - 1) h)) (warmTick (tasksOf c)) k) (filled .walked)
+        ap (λ (g : ℕ). made g (x .0) (f .walked)) (filled .anchors) ∙ ap (λ (y : ℕ). made (length (anchorsOf (tasksOf c) (p - 1) h)) y (f .walked)) (k ∙ ap warmTick same)
+        ∙ ap (λ (i : ℕ). made (length (anchorsOf (tasksOf c) (p - 1) h)) (warmTick (tasksOf c)) i) (filled .walked)
 
-    pub made-whole : f .anchors ≤ length s → Makes c p s l s′ l′ (Whole (record { anchors = f .anchors; tick = x; hyperperiod = h; walked = f .walked }))
+    whole : f .anchors ≤ length s → Makes c p s l s′ l′ (Whole (record { anchors = f .anchors; tick = x; hyperperiod = h; walked = f .walked }))
     unfolding madeAfter writtenAfter
-    made-whole g =
+    whole g =
         finish (verdict.Accepted h) _ s′ l′ e (rw (le-leb (length (anchorsOf (tasksOf c) (p - 1) h)) (length s) (omega (arith, filled .anchors))) (ap Whole figures)) (filled .first) (filled .second)
 
-    pub made-short : length s < f .anchors → Makes c p s l s′ l′ (Short (record { anchors = f .anchors; tick = x; hyperperiod = h; walked = f .walked }))
+    short : length s < f .anchors → Makes c p s l s′ l′ (Short (record { anchors = f .anchors; tick = x; hyperperiod = h; walked = f .walked }))
     unfolding madeAfter writtenAfter
-    made-short g =
+    short g =
         finish (verdict.Accepted h) _ s′ l′ e (rw (lt-leb (length (anchorsOf (tasksOf c) (p - 1) h)) (length s) (omega (arith, filled .anchors))) (ap Short figures)) (filled .first) (filled .second)
+
+-- the same for every chain that a list of tasks stands for
+module _ (t : List Task) (p : ℕ) (s l : List ℕ) where
+  pub made-refused : (r : Refusal) → judgedIn t p (length s) (length l) ≡ verdict.Refused r → MakesFor t p s l s l (Refused r)
+  made-refused r e c st = refused c p s l r (sym (judged-stands t c st p (length s) (length l)) ∙ e)
+
+  module _ (h m n : ℕ) (x : Tick) (s′ l′ : List ℕ) (f : Count) (e : judgedIn t p (length s) (length l) ≡ verdict.Accepted h) (w : m ≡ warmAt t (p - 1)) (k : x .0 ≡ warmTick t)
+      (u : n ≡ h / at t (p - 1) .period) (all : Filled t (p - 1) m n s l s′ l′ f) where
+    so : (c : Chain) → StandsFor t c → judged c p (length s) (length l) ≡ verdict.Accepted h
+    so c st = sym (judged-stands t c st p (length s) (length l)) ∙ e
+
+    same : (c : Chain) → StandsFor t c → t ≡ tasksOf c
+    same c st = st .tasks h (sym (st .verdict) ∙ well (verdictIn t) (length t) p (length s) (length l) h e .whole)
+
+    pub made-whole : f .anchors ≤ length s → MakesFor t p s l s′ l′ (Whole (record { anchors = f .anchors; tick = x; hyperperiod = h; walked = f .walked }))
+    made-whole g c st = whole c p s l h m n x s′ l′ f (so c st) t (same c st) w k u all g
+
+    pub made-short : length s < f .anchors → MakesFor t p s l s′ l′ (Short (record { anchors = f .anchors; tick = x; hyperperiod = h; walked = f .walked }))
+    made-short g c st = short c p s l h m n x s′ l′ f (so c st) t (same c st) w k u all g

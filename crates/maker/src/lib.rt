@@ -1,5 +1,5 @@
 // Making a table of anchors: one pass over the partitions of a hyperperiod, which writes the anchors into two lent lists.
-// `make_table` takes any chain, any place and any two lists.
+// `make_table` takes any chain, any place and any two lists; `make_table_on` any flat list of tasks.
 use chain::Chain;
 use chain::Verdict;
 use partition::Partition;
@@ -16,7 +16,7 @@ ghost use Rattle.chain.specs.Checks.{Sound};
 ghost use Rattle.chain.specs.Flat.{tasksIn};
 ghost use Rattle.timing.specs.WarmUp.{warmAt};
 ghost use Rattle.maker.specs.Turn.{lastEnd, Added, Filled};
-ghost use Rattle.maker.specs.Making.{afterChecks, Makes};
+ghost use Rattle.maker.specs.Making.{afterChecks, Makes, MakesFor};
 
 // The anchor count g, the warm-up tick x0, the hyperperiod H and the number of partitions walked.
 pub struct Figures {
@@ -144,27 +144,31 @@ fn judge(v: Verdict, places: usize, p: usize, a: usize, b: usize) -> Verdict
     }
 }
 
-// Document 01's making: the table of chain c cut at place p, p counted from 1; refusals 8, 5, 7, 9, 10, 11.
-pub fn make_table(c: Chain, p: usize, starts: &mut [u64], latencies: &mut [u64]) -> Made
-    ensures { λ r. ⌜ Makes c p (now (starts .entry)) (now (latencies .entry)) (now (starts .exit)) (now (latencies .exit)) r ⌝ }
+// Making on a flat list of tasks, one for each place, which is lent and not copied: the table cut at place p, p counted from 1; refusals 8, 5, 7, 9, 10, 11.
+pub fn make_table_on(tasks: &[u64], p: usize, starts: &mut [u64], latencies: &mut [u64]) -> Made
+    ensures { λ r. ⌜ MakesFor (tasksIn (now (tasks .entry))) p (now (starts .entry)) (now (latencies .entry)) (now (starts .exit)) (now (latencies .exit)) r ⌝ }
 {
     let a = starts.len();
-    let v = judge(chain::check(c), c.places, p, a, latencies.len());
+    let v = judge(
+        chain::check_on(tasks),
+        tasks.len() / 3,
+        p,
+        a,
+        latencies.len(),
+    );
     match v {
         Verdict::Refused(r) => {
             return Made::Refused(r);
         }
         Verdict::Accepted(h) => {
             let q = p - 1;
-            let jobs = timing::warm_jobs(c);
+            let jobs = timing::warm_jobs(tasks);
             let from = jobs[q];
             let w = jobs[0];
-            let first = c.tasks[0];
+            let first = chain::task_at(tasks, 0);
             let tick = first.read(w);
-            let t = c.tasks[q];
-            let tasks = chain::flat(c);
-            let n = 3 * c.places;
-            let f = fill(&tasks[..n], q, from, h / t.period, starts, latencies);
+            let t = chain::task_at(tasks, q);
+            let f = fill(tasks, q, from, h / t.period, starts, latencies);
             let figures = Figures {
                 anchors: f.anchors,
                 tick,
@@ -177,4 +181,13 @@ pub fn make_table(c: Chain, p: usize, starts: &mut [u64], latencies: &mut [u64])
             Made::Short(figures)
         }
     }
+}
+
+// Document 01's making.
+pub fn make_table(c: Chain, p: usize, starts: &mut [u64], latencies: &mut [u64]) -> Made
+    ensures { λ r. ⌜ Makes c p (now (starts .entry)) (now (latencies .entry)) (now (starts .exit)) (now (latencies .exit)) r ⌝ }
+{
+    let tasks = chain::flat(c);
+    let n = chain::flat_length(c.places);
+    make_table_on(&tasks[..n], p, starts, latencies)
 }

@@ -7,7 +7,7 @@ use Rattle.task.specs.Links.{earliestFrom, latestBy, forwardLink, backwardLink}
 use Rattle.euclid.specs.Divisor.{euclid, gcdOf, lcmOf}
 use Rattle.little_endian.specs.LittleEndian.{valueOf, numberAt}
 use Rattle.chain.specs.Chains.{forwardBy, onLatest, backwardBy}
-use Rattle.chain.specs.Checks.{firstFault, hyperVerdict, verdictOf}
+use Rattle.chain.specs.Checks.{firstFault, hyperVerdict, verdictFor}
 use Rattle.chain.specs.Hyperperiod.{hyperFrom}
 use Rattle.schedule.specs.Schedules.{taskRule, positionOf, known, taskNumbered, padded}
 use Rattle.file_reader.specs.Reading.{numbersFrom, allKnown, taskRecord, chainRecord, endRecord, kindRecord, recordOf, afterRecord, readFrom}
@@ -32,5 +32,5 @@ fileA =
     ∷ 4 ∷ 0 ∷ 3 ∷ 0 ∷ []
 
 pub report-a : reportOf fileA ≡ ascii "warm 0\nhyper 12\nanchors 2\na 0 18\na 8 16\nmax 18\nlow 10\nmean 174 12\nwalked 2\n"
-unfolding withinLimits earliestFrom latestBy forwardLink backwardLink euclid gcdOf lcmOf valueOf numberAt forwardBy onLatest backwardBy firstFault hyperVerdict verdictOf hyperFrom taskRule positionOf known taskNumbered padded numbersFrom allKnown taskRecord chainRecord endRecord kindRecord recordOf afterRecord readFrom leastFrom warmLast warmAt warmTick rangeFrom keep fresh dropRepeats startOf endOf keeps anchorsFrom anchors lastAt delayAt greatest lowTo low total delaySum judged madeAfter writtenAfter lastDigits decimal fields line longestPeriod longestPlace anchorLines headText figuresText tableText madeText chainText fileText
+unfolding withinLimits earliestFrom latestBy forwardLink backwardLink euclid gcdOf lcmOf valueOf numberAt forwardBy onLatest backwardBy firstFault hyperVerdict verdictFor hyperFrom taskRule positionOf known taskNumbered padded numbersFrom allKnown taskRecord chainRecord endRecord kindRecord recordOf afterRecord readFrom leastFrom warmLast warmAt warmTick rangeFrom keep fresh dropRepeats startOf endOf keeps anchorsFrom anchors lastAt delayAt greatest lowTo low total delaySum judged madeAfter writtenAfter lastDigits decimal fields line longestPeriod longestPlace anchorLines headText figuresText tableText madeText chainText fileText
 report-a = refl

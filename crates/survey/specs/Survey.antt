@@ -2,9 +2,7 @@
 -- calls' contracts cite; a call's answer is turned into plain numbers: of a refusal its number and its place, of a success 0 and its values.
 use Prim.Native.Nat.{ℕ, _+_, _-_}
 use mathlib.Core.Path.{_≡_, refl}
-use mathlib.Core.Bool.{not, cond}
 use mathlib.Core.List.{List, [], _∷_, _++_, map}
-use lib.Dec.{eqb, leb, ltb}
 use lib.ListN.{length, take, replicate}
 use Rattle.task.specs.declared.Task.{Task}
 use Rattle.task.specs.declared.Job.{Job}
@@ -16,13 +14,14 @@ use Rattle.chain.specs.declared.Verdict.{Verdict}
 use Rattle.chain.specs.declared.Verdict.the-variants as verdict
 use Rattle.chain.specs.Chains.{tasksOf, zeroTask, forwardBy, onLatest, backwardBy}
 use Rattle.chain.specs.Hyperperiod.{hyperFrom}
-use Rattle.chain.specs.Checks.{firstFault, hyperVerdict, verdictOf}
+use Rattle.chain.specs.Checks.{firstFault, hyperVerdict, verdictFor, verdictOf}
 use Rattle.timing.specs.declared.WarmUp.{WarmUp}
 use Rattle.timing.specs.declared.Span.{Span}
 use Rattle.timing.specs.declared.Span.the-variants as span
 use Rattle.timing.specs.WarmUp.{leastFrom, warmLast, warmAt, warmTick}
 use Rattle.timing.specs.Delay.{delayAt, firstAged, ageAt}
-use Rattle.timing.specs.Answers.{entries, warmUpAfter, warmUpOf, spanAfter, delayOf, ageOf}
+use Rattle.chain.specs.Entries.{entries}
+use Rattle.timing.specs.Answers.{warmUpAfter, warmUpOf, spanAfter, delayOf, ageOf}
 use Rattle.table.specs.Anchors.{anchors}
 use Rattle.table.specs.WellFormed.{spaced, wellFormed}
 use Rattle.table.specs.Reading as read
@@ -186,5 +185,5 @@ said =
     ∷ []
 
 pub survey : computed ≡ said
-unfolding computed withinLimits earliestFrom latestBy forwardLink backwardLink euclid gcdOf lcmOf forwardBy onLatest backwardBy hyperFrom firstFault hyperVerdict verdictOf leastFrom warmLast warmAt warmTick delayAt firstAged ageAt entries warmUpAfter spanAfter anchors spaced wellFormed read.reading read.delayAt read.lastAt greatest lowTo low total everyAbove longestRun ticks delaySum exceedance greatestOf lowOf meanOf exceedanceOf rangeFrom keep fresh dropRepeats startOf endOf keeps anchorsFrom judged madeAfter writtenAfter spanOf misses missesIn largest mostMisses window.judged window.toldAfter
+unfolding computed withinLimits earliestFrom latestBy forwardLink backwardLink euclid gcdOf lcmOf forwardBy onLatest backwardBy hyperFrom firstFault hyperVerdict verdictFor leastFrom warmLast warmAt warmTick delayAt firstAged ageAt entries warmUpAfter spanAfter anchors spaced wellFormed read.reading read.delayAt read.lastAt greatest lowTo low total everyAbove longestRun ticks delaySum exceedance greatestOf lowOf meanOf exceedanceOf rangeFrom keep fresh dropRepeats startOf endOf keeps anchorsFrom judged madeAfter writtenAfter spanOf misses missesIn largest mostMisses window.judged window.toldAfter
 survey = refl

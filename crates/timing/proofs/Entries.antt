@@ -1,30 +1,20 @@
 -- The array of warm-up jobs, entry by entry.
-use Prim.Native.Nat.{ℕ, zero, suc, _+_, _-_, _≤_, _<_}
+use Prim.Native.Nat.{ℕ, zero, suc, _+_, _≤_, _<_}
 use native.Mathlib.Omega.{arith}
 use native.Mathlib.Decide.{decLt}
 use mathlib.Core.Path.{_≡_, refl, sym, ap, _∙_}
 use mathlib.Core.List.{List}
 use lib.ListN.{length, getD, set, length-set, replicate}
-use lib.Seq.{ext-getD, getD-set-same, getD-set-other}
+use lib.Seq.{getD-set-same, getD-set-other}
 use borrow.Author.Tests.{lt-ltb, le-ltb}
 use Rattle.task.specs.declared.Task.{Task}
 use Rattle.task.specs.declared.Job.{Job}
+use Rattle.chain.specs.Entries.{entries-are}
 use Rattle.timing.specs.WarmUp.{warmAt}
-use Rattle.timing.specs.Answers.{entries, warmEntry, warmEntries}
+use Rattle.timing.specs.Answers.{warmEntry, warmEntries}
 
 abbrev pub noJob : Job
 noJob = record { 0 = 0 }
-
-pub entries-length : (f : ℕ → Job) (p n : ℕ) → length (entries f p n) ≡ n
-unfolding entries
-entries-length f p zero = refl
-entries-length f p (suc n) = ap suc (entries-length f (suc p) n)
-
-pub entries-at : (f : ℕ → Job) (p n i : ℕ) → i < n → getD (entries f p n) i noJob ≡ f (p + i)
-unfolding entries
-entries-at f p zero i h = absurd (omega arith)
-entries-at f p (suc n) zero h = let e : p + 0 ≡ p = omega arith in rw e
-entries-at f p (suc n) (suc i) h = let e : p + suc i ≡ suc p + i = omega arith in rw e (entries-at f (suc p) n i (omega arith))
 
 -- from entry i on the array holds what it should
 pub record From (l : List Task) (i : ℕ) (jobs : List Job) : Type 0 where
@@ -55,12 +45,7 @@ module _ (l : List Task) (few : length l ≤ 12) where
       past x g = rw (le-ltb x (length l) g)
 
   pub from-all : (jobs : List Job) → From l 0 jobs → jobs ≡ warmEntries l
-  from-all jobs from =
-      ext-getD noJob jobs (warmEntries l) (from .whole ∙ sym (entries-length (warmEntry l) 0 12))
-      (λ x h. from .each x (omega arith) (omega (arith, from .whole)) ∙ sym (at x (omega (arith, from .whole))))
-    where
-      at : (x : ℕ) → x < 12 → getD (warmEntries l) x noJob ≡ warmEntry l x
-      at x h = let e : 0 + x ≡ x = omega arith in entries-at (warmEntry l) 0 12 x h ∙ ap (warmEntry l) e
+  from-all jobs from = sym (entries-are (warmEntry l) noJob jobs 12 (from .whole) (λ x h. sym (from .each x (omega arith) h)))
 
 pub zeros-at : (n x : ℕ) → getD (replicate n noJob) x noJob ≡ noJob
 zeros-at zero x = refl

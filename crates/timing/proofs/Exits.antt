@@ -1,9 +1,9 @@
 -- What holds at each return of the entry points.
-use Prim.Native.Nat.{ℕ, _+_, _≤_, _<_}
+use Prim.Native.Nat.{ℕ, _≤_, _<_}
 use mathlib.Core.Path.{_≡_, refl, sym, ap, _∙_}
-use mathlib.Core.Bool.{Bool, cond}
+use mathlib.Core.Bool.{Bool, true, false, cond}
 use lib.Dec.{ltb}
-use borrow.Author.Tests.{lt-ltb, le-ltb}
+use borrow.Author.Tests.{lt-ltb, le-ltb, ltb-false}
 use Rattle.refusal.specs.declared.Refusal.{Refusal}
 use Rattle.refusal.specs.Refusals.{refusal}
 use Rattle.chain.specs.declared.Verdict.{Verdict}
@@ -17,10 +17,31 @@ use Rattle.task.specs.declared.Task.{Task}
 use Rattle.task.specs.declared.Job.{Job}
 use Rattle.task.specs.declared.Tick.{Tick}
 use Rattle.timing.specs.declared.WarmUp.{WarmUp}
+use Rattle.chain.specs.Entries.{entries-at}
 use Rattle.chain.specs.Checks.{Sound}
 use Rattle.timing.specs.WarmUp.{warmAt, warmTick}
-use Rattle.timing.specs.Answers.{warmEntry, warmEntries, warmUpAfter, spanAfter}
-use Rattle.timing.proofs.Entries.{noJob, entries-at}
+use Rattle.timing.specs.Answers.{upperTick, warmEntry, warmEntries, warmUpAfter, tickRefusal, spanAfter}
+use Rattle.timing.proofs.Entries.{noJob}
+
+-- a tick t that is asked for, where answers are known from `from` on
+module _ (t from : ℕ) where
+  pub tick-early : t < from → 12 ≡ tickRefusal t from
+  tick-early h = rw (lt-ltb t from h)
+
+  pub tick-late : from ≤ t → 1000000000000 < t → 13 ≡ tickRefusal t from
+  tick-late h g = rw (le-ltb t from h, lt-ltb 1000000000000 t g)
+
+  pub tick-known : from ≤ t → t ≤ 1000000000000 → 0 ≡ tickRefusal t from
+  tick-known h g = rw (le-ltb t from h, le-ltb 1000000000000 t g)
+
+  -- the refusal n that the code finds with x for `from` is none
+  pub in-range : (n x : ℕ) → n ≡ tickRefusal t x → x ≡ from → n ≡ 0 → (from ≤ t) × (t ≤ 1000000000000)
+  in-range n x number known z = go (ltb t from) (ltb 1000000000000 t) refl refl (sym (number ∙ ap (tickRefusal t) known) ∙ z)
+    where
+      go : (p q : Bool) → ltb t from ≡ p → ltb 1000000000000 t ≡ q → _≡_ {A = ℕ} (cond p 12 (cond q 13 0)) 0 → (from ≤ t) × (t ≤ 1000000000000)
+      go true q early late e = absurd (omega arith)
+      go false true early late e = absurd (omega arith)
+      go false false early late e = (ltb-false t from early, ltb-false 1000000000000 t late)
 
 -- a delay or an age, asked for at t and known from `from` on
 module _ (v : Verdict) (from t span : ℕ) where
@@ -28,18 +49,24 @@ module _ (v : Verdict) (from t span : ℕ) where
   unfolding spanAfter
   span-refused r e = rw e
 
-  module _ (h : ℕ) (e : v ≡ verdict.Accepted h) where
-    pub span-early : (x : ℕ) → x ≡ from → t < x → Refused (refusal 12 0) ≡ spanAfter v from t span
-    unfolding spanAfter
-    span-early x q l = rw (e, ← q, lt-ltb t x l)
+  module _ (h : ℕ) (e : v ≡ verdict.Accepted h) (n x : ℕ) (number : n ≡ tickRefusal t x) (known : x ≡ from) where
+    is-number : n ≡ tickRefusal t from
+    is-number = number ∙ ap (tickRefusal t) known
 
-    pub span-late : (x : ℕ) → x ≡ from → x ≤ t → 1000000000000 < t → Refused (refusal 13 0) ≡ spanAfter v from t span
+    pub span-tick : (n ≡ 0 → ⊥) → Refused (refusal n 0) ≡ spanAfter v from t span
     unfolding spanAfter
-    span-late x q l g = rw (e, ← q, le-ltb t x l, lt-ltb 1000000000000 t g)
+    span-tick some = rw e (go (ltb t from) (ltb upperTick t) is-number)
+      where
+        go : (x y : Bool) → n ≡ cond x 12 (cond y 13 0) → Refused (refusal n 0) ≡ cond x (Refused (refusal 12 0)) (cond y (Refused (refusal 13 0)) (Ticks span))
+        go true y q = ap (λ (k : ℕ). Refused (refusal k 0)) q
+        go false true q = ap (λ (k : ℕ). Refused (refusal k 0)) q
+        go false false q = absurd (some q)
 
-    pub span-known : (x : ℕ) → x ≡ from → x ≤ t → t ≤ 1000000000000 → (s : ℕ) → s ≡ span → Ticks s ≡ spanAfter v from t span
+    pub span-known : n ≡ 0 → (s : ℕ) → s ≡ span → Ticks s ≡ spanAfter v from t span
     unfolding spanAfter
-    span-known x q l g s k = rw (e, ← q, le-ltb t x l, le-ltb 1000000000000 t g, k)
+    span-known z s k =
+        let r = in-range t from n x number known z in
+        rw (e, le-ltb t from (r .0), le-ltb 1000000000000 t (r .1), k)
 
 -- warm-up
 module _ (l : List Task) (v : Verdict) where
@@ -59,5 +86,4 @@ module _ (l : List Task) (v : Verdict) where
 -- the array's entry at a place is the warm-up job there
 pub entry-job : (l : List Task) → Sound l → (jobs : List Job) → jobs ≡ warmEntries l → (p : ℕ) → p < length l → getD jobs p noJob .0 ≡ warmAt l p
 entry-job l ok jobs e p h =
-    let z : 0 + p ≡ p = omega arith in
-    ap (λ (x : List Job). getD x p noJob .0) e ∙ ap (λ (x : Job). x .0) (entries-at (warmEntry l) 0 12 p (omega (arith, ok .few))) ∙ ap (λ (x : ℕ). warmEntry l x .0) z ∙ rw (lt-ltb p (length l) h)
+    ap (λ (x : List Job). getD x p noJob .0) e ∙ ap (λ (x : Job). x .0) (entries-at (warmEntry l) noJob 12 p (omega (arith, ok .few))) ∙ rw (lt-ltb p (length l) h)

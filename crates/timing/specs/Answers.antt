@@ -1,10 +1,9 @@
 -- Document 01, "Refusals, call by call": what warm-up, walking and ageing answer, refusals included.
-use Prim.Native.Nat.{ℕ, zero, suc, _+_}
+use Prim.Native.Nat.{ℕ}
 use mathlib.Core.Bool.{cond}
-use mathlib.Core.List.{List, [], _∷_}
+use mathlib.Core.List.{List}
 use lib.Dec.{ltb}
 use lib.ListN.{length, replicate}
-use Rattle.refusal.specs.declared.Refusal.{Refusal}
 use Rattle.refusal.specs.Refusals.{refusal, none}
 use Rattle.task.specs.declared.Task.{Task}
 use Rattle.task.specs.declared.Job.{Job}
@@ -15,9 +14,10 @@ use Rattle.timing.specs.declared.WarmUp.{WarmUp}
 use Rattle.timing.specs.declared.Span.{Span}
 use Rattle.timing.specs.declared.Span.the-variants.{Ticks, Refused}
 use Rattle.chain.specs.Chains.{tasksOf}
+use Rattle.chain.specs.Entries.{entries}
 use Rattle.timing.specs.WarmUp.{warmAt, warmTick}
 use Rattle.timing.specs.Delay.{delayAt, firstAged, ageAt}
-use Rattle.chain.specs.Checks.{verdictOf}
+use Rattle.chain.specs.Checks.{verdictOf, verdictIn}
 
 abbrev job : ℕ → Job
 job n = record { 0 = n }
@@ -25,11 +25,6 @@ job n = record { 0 = n }
 -- The upper tick.
 abbrev pub upperTick : ℕ
 upperTick = 1000000000000
-
--- f at p, p + 1, and so on, n in all.
-unfoldable pub entries : (ℕ → Job) → ℕ → ℕ → List Job
-entries f p zero = []
-entries f p (suc n) = f p ∷ entries f (suc p) n
 
 -- W1 to Wn, and 0 in the array's entries past the places.
 abbrev pub warmEntry : List Task → ℕ → Job
@@ -46,6 +41,10 @@ warmUpAfter l (verdict.Refused r) = record { refusal = r; jobs = replicate 12 (j
 abbrev pub warmUpOf : Chain → WarmUp
 warmUpOf c = warmUpAfter (tasksOf c) (verdictOf c)
 
+-- The same of a list of tasks, one for each place; so below for walking and ageing.
+abbrev pub warmUpIn : List Task → WarmUp
+warmUpIn l = warmUpAfter l (verdictIn l)
+
 -- A span of ticks that is asked for at tick t and known from tick `from` on: 12, tick too early; 13, tick above the upper tick.
 unfoldable pub spanAfter : Verdict → ℕ → ℕ → ℕ → Span
 spanAfter (verdict.Accepted h) from t span =
@@ -56,6 +55,16 @@ spanAfter (verdict.Refused r) from t span = Refused r
 abbrev pub delayOf : Chain → ℕ → Span
 delayOf c t = spanAfter (verdictOf c) (warmTick (tasksOf c)) t (delayAt (tasksOf c) t)
 
+abbrev pub delayIn : List Task → ℕ → Span
+delayIn l t = spanAfter (verdictIn l) (warmTick l) t (delayAt l t)
+
 -- Ageing: the age at tick z.
 abbrev pub ageOf : Chain → ℕ → Span
 ageOf c z = spanAfter (verdictOf c) (firstAged (tasksOf c)) z (ageAt (tasksOf c) z)
+
+abbrev pub ageIn : List Task → ℕ → Span
+ageIn l z = spanAfter (verdictIn l) (firstAged l) z (ageAt l z)
+
+-- The refusal that a tick gets, as `spanAfter` has it, as a number: 0 for none.
+abbrev pub tickRefusal : ℕ → ℕ → ℕ
+tickRefusal t from = cond (ltb t from) 12 (cond (ltb upperTick t) 13 0)

@@ -1,5 +1,6 @@
 // Warm-up, delay and age of a chain.
-// Its calls `warm_up`, `delay` and `age` take any values; `warm_jobs` is for the crates above, on chains that `chain::check` accepted.
+// Its calls `warm_up`, `delay` and `age` take any values, and so do those on a flat list T, D, F, T, D, F, .. of tasks, one for each place, which is lent and not copied.
+// `warm_jobs` is for the crates above, on lists that `chain::check_on` accepted.
 use chain::Chain;
 use chain::Verdict;
 use refusal::Refusal;
@@ -8,11 +9,11 @@ use task::Task;
 use task::Tick;
 ghost use mathlib.Core.Path.{_≡_};
 ghost use Prim.Native.Nat.{_+_, _*_, _-_, _≤_, _<_};
-ghost use Rattle.chain.specs.Chains.{tasksOf};
-ghost use Rattle.chain.specs.Checks.{Checked};
+ghost use Rattle.chain.specs.Checks.{Sound};
+ghost use Rattle.chain.specs.Flat.{tasksIn};
 ghost use Rattle.timing.specs.WarmUp.{warmLast, warmTick};
 ghost use Rattle.timing.specs.Delay.{delayAt, firstAged, ageAt};
-ghost use Rattle.timing.specs.Answers.{warmEntries, warmUpOf, delayOf, ageOf};
+ghost use Rattle.timing.specs.Answers.{warmEntries, warmUpOf, warmUpIn, tickRefusal, delayOf, delayIn, ageOf, ageIn};
 
 // W1 to Wn, the warm-up tick x0 and the hyperperiod H. The refusal is number 0 at place 0 in a success; in a refusal all else is zero.
 pub struct WarmUp {
@@ -31,48 +32,50 @@ pub enum Span {
 // ---- warm-up
 
 // Wn: no search is needed, since job 0 of the first place goes forward to it.
-fn warm_last(c: Chain) -> Job
-    requires { ⌜ Checked c ⌝ }
-    ensures { λ r. ⌜ r .0 ≡ warmLast (tasksOf c) ⌝ }
+fn warm_last(tasks: &[u64]) -> Job
+    requires { ⌜ Sound (tasksIn (now tasks)) ⌝ }
+    ensures { λ r. ⌜ r .0 ≡ warmLast (tasksIn (now (tasks .entry))) ⌝ }
 {
-    chain::forward(c, 0, c.places - 1, Job(0))
+    chain::forward_on(tasks, 0, tasks.len() / 3 - 1, Job(0))
 }
 
 // W1 to Wn, and zeros past them: from Wn backward, a place at a time.
-pub fn warm_jobs(c: Chain) -> [Job; 12]
-    requires { ⌜ Checked c ⌝ }
-    ensures { λ r. ⌜ r ≡ warmEntries (tasksOf c) ⌝ }
+pub fn warm_jobs(tasks: &[u64]) -> [Job; 12]
+    requires { ⌜ Sound (tasksIn (now tasks)) ⌝ }
+    ensures { λ r. ⌜ r ≡ warmEntries (tasksIn (now (tasks .entry))) ⌝ }
 {
     let mut jobs = [Job(0); 12];
-    let mut i = c.places - 1;
-    let mut k = warm_last(c);
+    let mut i = tasks.len() / 3 - 1;
+    let mut k = warm_last(tasks);
+    let mut b = chain::task_at(tasks, i);
     jobs[i] = k;
     while 0 < i {
-        let b = c.tasks[i];
         i -= 1;
-        let a = c.tasks[i];
+        let a = chain::task_at(tasks, i);
         k = chain::job_of(b.backward_to(a, k));
         jobs[i] = k;
+        b = a;
     }
     jobs
 }
 
 // The warm-up tick x0: the read of W1.
-fn warm_tick(c: Chain) -> Tick
-    requires { ⌜ Checked c ⌝ }
-    ensures { λ r. ⌜ r .0 ≡ warmTick (tasksOf c) ⌝ }
+fn warm_tick(tasks: &[u64]) -> Tick
+    requires { ⌜ Sound (tasksIn (now tasks)) ⌝ }
+    ensures { λ r. ⌜ r .0 ≡ warmTick (tasksIn (now (tasks .entry))) ⌝ }
 {
-    let k = warm_last(c);
-    let j = chain::job_of(chain::backward(c, 0, c.places - 1, k));
-    let first = c.tasks[0];
+    let n = tasks.len() / 3 - 1;
+    let k = warm_last(tasks);
+    let j = chain::job_of(chain::backward_on(tasks, 0, n, k));
+    let first = chain::task_at(tasks, 0);
     first.read(j)
 }
 
-// Document 01's warm-up: W1 to Wn, x0 and H; refusals 8, 5, 7.
-pub fn warm_up(c: Chain) -> WarmUp
-    ensures { λ r. ⌜ r ≡ warmUpOf c ⌝ }
+// Warm-up of a flat list of tasks: W1 to Wn, x0 and H; refusals 8, 5, 7.
+pub fn warm_up_on(tasks: &[u64]) -> WarmUp
+    ensures { λ r. ⌜ r ≡ warmUpIn (tasksIn (now (tasks .entry))) ⌝ }
 {
-    let v = chain::check(c);
+    let v = chain::check_on(tasks);
     match v {
         Verdict::Refused(r) => {
             return WarmUp {
@@ -83,8 +86,8 @@ pub fn warm_up(c: Chain) -> WarmUp
             };
         }
         Verdict::Accepted(h) => {
-            let jobs = warm_jobs(c);
-            let first = c.tasks[0];
+            let jobs = warm_jobs(tasks);
+            let first = chain::task_at(tasks, 0);
             let j = jobs[0];
             let tick = first.read(j);
             WarmUp {
@@ -100,98 +103,120 @@ pub fn warm_up(c: Chain) -> WarmUp
     }
 }
 
+// Document 01's warm-up.
+pub fn warm_up(c: Chain) -> WarmUp
+    ensures { λ r. ⌜ r ≡ warmUpOf c ⌝ }
+{
+    let tasks = chain::flat(c);
+    let n = chain::flat_length(c.places);
+    warm_up_on(&tasks[..n])
+}
+
+// The check of a tick that is asked for, where answers are known from tick `from` on: 12, 13, or 0 for no refusal.
+fn tick_refusal(t: Tick, from: Tick) -> u64
+    ensures { λ r. ⌜ r ≡ tickRefusal (t .0) (from .0) ⌝ }
+{
+    if t.0 < from.0 {
+        return 12;
+    }
+    if 1000000000000 < t.0 {
+        return 13;
+    }
+    0
+}
+
 // ---- delay
 
-// The delay at tick t of a chain that passes 8 and 5.
-fn delay_ticks(c: Chain, t: Tick) -> u64
-    requires { ⌜ (Checked c) × (t .0 ≤ 1000000000000) ⌝ }
-    ensures { λ r. ⌜ r ≡ delayAt (tasksOf c) (t .0) ⌝ }
+// The delay at tick t of a list that passes 8 and 5.
+fn delay_ticks(tasks: &[u64], t: Tick) -> u64
+    requires { ⌜ (Sound (tasksIn (now tasks))) × (t .0 ≤ 1000000000000) ⌝ }
+    ensures { λ r. ⌜ r ≡ delayAt (tasksIn (now (tasks .entry))) (t .0) ⌝ }
 {
-    let n = c.places - 1;
-    let first = c.tasks[0];
+    let n = tasks.len() / 3 - 1;
+    let first = chain::task_at(tasks, 0);
     let j = first.earliest_after(t);
-    let k = chain::forward(c, 0, n, j);
-    let last = c.tasks[n];
+    let k = chain::forward_on(tasks, 0, n, j);
+    let last = chain::task_at(tasks, n);
     let end = last.write(k);
     end.0 - t.0
 }
 
-// Document 01's walking: the delay of a press at tick t; refusals 8, 5, 7, 12, 13.
-pub fn delay(c: Chain, t: Tick) -> Span
-    ensures { λ r. ⌜ r ≡ delayOf c (t .0) ⌝ }
+// Walking of a flat list of tasks: the delay of a press at tick t; refusals 8, 5, 7, 12, 13.
+pub fn delay_on(tasks: &[u64], t: Tick) -> Span
+    ensures { λ r. ⌜ r ≡ delayIn (tasksIn (now (tasks .entry))) (t .0) ⌝ }
 {
-    let v = chain::check(c);
+    let v = chain::check_on(tasks);
     match v {
         Verdict::Refused(r) => {
             return Span::Refused(r);
         }
         Verdict::Accepted(_) => {}
     }
-    let from = warm_tick(c);
-    if t.0 < from.0 {
-        return Span::Refused(Refusal {
-            number: 12,
-            place: 0,
-        });
+    let number = tick_refusal(t, warm_tick(tasks));
+    if number != 0 {
+        return Span::Refused(Refusal { number, place: 0 });
     }
-    if 1000000000000 < t.0 {
-        return Span::Refused(Refusal {
-            number: 13,
-            place: 0,
-        });
-    }
-    Span::Ticks(delay_ticks(c, t))
+    Span::Ticks(delay_ticks(tasks, t))
+}
+
+// Document 01's walking.
+pub fn delay(c: Chain, t: Tick) -> Span
+    ensures { λ r. ⌜ r ≡ delayOf c (t .0) ⌝ }
+{
+    let tasks = chain::flat(c);
+    let n = chain::flat_length(c.places);
+    delay_on(&tasks[..n], t)
 }
 
 // ---- age
 
 // The first tick that has an age: the write of Wn.
-fn first_aged(c: Chain) -> Tick
-    requires { ⌜ Checked c ⌝ }
-    ensures { λ r. ⌜ r .0 ≡ firstAged (tasksOf c) ⌝ }
+fn first_aged(tasks: &[u64]) -> Tick
+    requires { ⌜ Sound (tasksIn (now tasks)) ⌝ }
+    ensures { λ r. ⌜ r .0 ≡ firstAged (tasksIn (now (tasks .entry))) ⌝ }
 {
-    let n = c.places - 1;
-    let last = c.tasks[n];
-    last.write(warm_last(c))
+    let n = tasks.len() / 3 - 1;
+    let last = chain::task_at(tasks, n);
+    last.write(warm_last(tasks))
 }
 
-// The age at tick z of a chain that passes 8 and 5.
-fn age_ticks(c: Chain, z: Tick) -> u64
-    requires { ⌜ (Checked c) × (firstAged (tasksOf c) ≤ z .0) × (z .0 ≤ 1000000000000) ⌝ }
-    ensures { λ r. ⌜ r ≡ ageAt (tasksOf c) (z .0) ⌝ }
+// The age at tick z of a list that passes 8 and 5.
+fn age_ticks(tasks: &[u64], z: Tick) -> u64
+    requires { ⌜ (Sound (tasksIn (now tasks))) × (firstAged (tasksIn (now tasks)) ≤ z .0) × (z .0 ≤ 1000000000000) ⌝ }
+    ensures { λ r. ⌜ r ≡ ageAt (tasksIn (now (tasks .entry))) (z .0) ⌝ }
 {
-    let n = c.places - 1;
-    let last = c.tasks[n];
+    let n = tasks.len() / 3 - 1;
+    let last = chain::task_at(tasks, n);
     let k = chain::job_of(last.latest_by(z));
-    let j = chain::job_of(chain::backward(c, 0, n, k));
-    let first = c.tasks[0];
+    let j = chain::job_of(chain::backward_on(tasks, 0, n, k));
+    let first = chain::task_at(tasks, 0);
     let start = first.read(j);
     z.0 - start.0
 }
 
-// Document 01's ageing: the age at tick z; refusals 8, 5, 7, 12, 13.
-pub fn age(c: Chain, z: Tick) -> Span
-    ensures { λ r. ⌜ r ≡ ageOf c (z .0) ⌝ }
+// Ageing of a flat list of tasks: the age at tick z; refusals 8, 5, 7, 12, 13.
+pub fn age_on(tasks: &[u64], z: Tick) -> Span
+    ensures { λ r. ⌜ r ≡ ageIn (tasksIn (now (tasks .entry))) (z .0) ⌝ }
 {
-    let v = chain::check(c);
+    let v = chain::check_on(tasks);
     match v {
         Verdict::Refused(r) => {
             return Span::Refused(r);
         }
         Verdict::Accepted(_) => {}
     }
-    let from = first_aged(c);
-    if z.0 < from.0 {
-        return Span::Refused(Refusal {
-            number: 12,
-            place: 0,
-        });
+    let number = tick_refusal(z, first_aged(tasks));
+    if number != 0 {
+        return Span::Refused(Refusal { number, place: 0 });
     }
-    if 1000000000000 < z.0 {
-        return Span::Refused(Refusal {
-            number: 13,
-            place: 0,
-        });
-    }
-    Span::Ticks(age_ticks(c, z))
+    Span::Ticks(age_ticks(tasks, z))
+}
+
+// Document 01's ageing.
+pub fn age(c: Chain, z: Tick) -> Span
+    ensures { λ r. ⌜ r ≡ ageOf c (z .0) ⌝ }
+{
+    let tasks = chain::flat(c);
+    let n = chain::flat_length(c.places);
+    age_on(&tasks[..n], z)
 }

@@ -13,6 +13,7 @@ use Rattle.chain.specs.declared.Verdict.the-variants as verdict
 use Rattle.chain.specs.Chains.{tasksOf, at, lastPlace, walk}
 use Rattle.chain.specs.Hyperperiod.{hyperOf}
 use Rattle.chain.specs.Checks.{verdictOf}
+use Rattle.chain.specs.StandsFor.{StandsFor}
 use Rattle.timing.specs.WarmUp.{warmAt}
 use Rattle.windows.specs.declared.Windows.{Windows}
 use Rattle.windows.specs.declared.Windows.the-variants.{Most, Refused}
@@ -99,3 +100,7 @@ pub record Answers (c : Chain) (B k : ℕ) (r : Windows) : Type 0 where
   pub answer : r ≡ windowsAfter (tasksOf c) B k (told r .first) (judged c k)
   pub tells : told r ≡ toldAfter (tasksOf c) B k (told r .first) (judged c k)
   pub first : FirstAfter (tasksOf c) B k (told r .first) (judged c k)
+
+-- The call on a list of tasks: the same for every chain that the list stands for.
+abbrev pub AnswersFor : List Task → ℕ → ℕ → Windows → Type 0
+AnswersFor l B k r = (c : Chain) → StandsFor l c → Answers c B k r

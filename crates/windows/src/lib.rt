@@ -1,5 +1,5 @@
 // Windows of jobs: the largest number of missed jobs in k successive jobs of a chain's first place.
-// `most_misses` takes any chain, any bound and any k.
+// `most_misses` takes any chain, any bound and any k; `most_misses_on` any flat list of tasks.
 use chain::Chain;
 use chain::Verdict;
 use refusal::Refusal;
@@ -11,7 +11,7 @@ ghost use Rattle.task.specs.Jobs.{writeOf};
 ghost use Rattle.chain.specs.Chains.{at};
 ghost use Rattle.chain.specs.Checks.{Sound};
 ghost use Rattle.chain.specs.Flat.{tasksIn};
-ghost use Rattle.windows.specs.Windows.{misses, one, missesIn, afterLimits, Answers};
+ghost use Rattle.windows.specs.Windows.{misses, one, missesIn, afterLimits, Answers, AnswersFor};
 ghost use Rattle.windows.specs.Slide.{FirstWindow, nextIn, betterOf, Top};
 
 // The largest number of misses in a window, and the first job of a window with that many.
@@ -146,24 +146,31 @@ fn judge(v: Verdict, k: u64) -> Verdict
     }
 }
 
-// Document 01's windows of jobs: the largest number of misses of b in k successive jobs; refusals 8, 5, 7, 15.
-pub fn most_misses(c: Chain, b: u64, k: u64) -> Windows
-    ensures { λ r. ⌜ Answers c b k r ⌝ }
+// Windows of jobs of a flat list of tasks, one for each place: the largest number of misses of b in k successive jobs; refusals 8, 5, 7, 15.
+pub fn most_misses_on(tasks: &[u64], b: u64, k: u64) -> Windows
+    ensures { λ r. ⌜ AnswersFor (tasksIn (now (tasks .entry))) b k r ⌝ }
 {
-    let v = judge(chain::check(c), k);
+    let v = judge(chain::check_on(tasks), k);
     match v {
         Verdict::Refused(r) => {
             return Windows::Refused(r);
         }
         Verdict::Accepted(h) => {
-            let jobs = timing::warm_jobs(c);
+            let jobs = timing::warm_jobs(tasks);
             let w = jobs[0];
-            let first = c.tasks[0];
-            let tasks = chain::flat(c);
-            let n = 3 * c.places;
-            let best = slide(&tasks[..n], b, k, Job(w.0 + 1), Job(w.0 + h / first.period));
+            let first = chain::task_at(tasks, 0);
+            let best = slide(tasks, b, k, Job(w.0 + 1), Job(w.0 + h / first.period));
             let from = best.first;
             Windows::Most(best.misses, from)
         }
     }
+}
+
+// Document 01's windows of jobs.
+pub fn most_misses(c: Chain, b: u64, k: u64) -> Windows
+    ensures { λ r. ⌜ Answers c b k r ⌝ }
+{
+    let tasks = chain::flat(c);
+    let n = chain::flat_length(c.places);
+    most_misses_on(&tasks[..n], b, k)
 }

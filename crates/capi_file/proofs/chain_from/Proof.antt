@@ -1,12 +1,13 @@
 use mathlib.Core.List.{List}
 use lib.ListN.{set, length-set, List·getD-eq-default}
 use native.Mathlib.Omega.{arith}
-use Prim.Native.Nat.{ℕ, _+_, _-_, _*_, _≤_, _<_}
-use mathlib.Core.Path.{_≡_, refl, sym, ap, _∙_}
+use Prim.Native.Nat.{ℕ, _-_, _≤_}
+use mathlib.Core.Path.{_≡_, refl, ap, _∙_}
 use borrow.Author.Needs.{needs}
 use lib.ListN.{length}
 use Rattle.schedule.specs.Schedules.{padded}
-use Rattle.capi_file.specs.FlatSchedule.{placeAt, entriesOf}
+use Rattle.chain.specs.Entries.{entries}
+use Rattle.capi_file.specs.FlatSchedule.{placeAt}
 use Rattle.capi_file.proofs.Flat.{entries-none, entries-store, entries-leave, entries-whole}
 use Rattle.capi_file.proofs.chain_from.Statement.{statement}
 use Rattle.capi_file.proofs.chain_from.Tie as tie
@@ -14,7 +15,7 @@ use Rattle.capi_file.proofs.chain_from.Reads as reads
 use Rattle.capi_file.proofs.chain_from.Lts as lts
 
 abbrev Inv-loop : tie.InvT-loop
-Inv-loop list chain₀ i₀ chain i = (i ≤ 12) × (length chain ≡ 12) × (chain ≡ padded 12 0 (entriesOf (placeAt list) 0 i))
+Inv-loop list chain₀ i₀ chain i = (i ≤ 12) × (length chain ≡ 12) × (chain ≡ padded 12 0 (entries (placeAt list) 0 i))
 
 abbrev μ-loop : tie.MeasureT-loop
 μ-loop list chain₀ i₀ chain i = 12 - i
@@ -60,7 +61,7 @@ returns : tie.Need-returns Inv-loop μ-loop
 returns c =
     let l = c .before .loop in
     let e : l .i ≡ 12 = omega arith in
-    l .inv .2 ∙ ap (λ (k : ℕ). padded 12 0 (entriesOf (placeAt (c .before .before .args .list .now)) 0 k)) e ∙ entries-whole (placeAt (c .before .before .args .list .now)) 12 0
+    l .inv .2 ∙ ap (λ (k : ℕ). padded 12 0 (entries (placeAt (c .before .before .args .list .now)) 0 k)) e ∙ entries-whole (placeAt (c .before .before .args .list .now)) 12 0
 
 pub chain-from-spec : {M : Type 1} → statement M
 chain-from-spec =

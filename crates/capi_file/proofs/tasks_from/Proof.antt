@@ -2,12 +2,13 @@ use mathlib.Core.List.{List}
 use lib.ListN.{set, length-set}
 use Rattle.schedule.specs.declared.NumberedTask.{NumberedTask}
 use native.Mathlib.Omega.{arith}
-use Prim.Native.Nat.{ℕ, _+_, _-_, _*_, _≤_, _<_}
-use mathlib.Core.Path.{_≡_, refl, sym, ap, _∙_}
+use Prim.Native.Nat.{ℕ, _-_, _≤_}
+use mathlib.Core.Path.{_≡_, refl, ap, _∙_}
 use borrow.Author.Needs.{needs}
 use lib.ListN.{length}
 use Rattle.schedule.specs.Schedules.{padded, zeroNumbered}
-use Rattle.capi_file.specs.FlatSchedule.{numberedAt, entriesOf}
+use Rattle.chain.specs.Entries.{entries}
+use Rattle.capi_file.specs.FlatSchedule.{numberedAt}
 use Rattle.capi_file.proofs.Flat.{entries-none, entries-store, entries-whole}
 use Rattle.capi_file.proofs.tasks_from.Statement.{statement}
 use Rattle.capi_file.proofs.tasks_from.Tie as tie
@@ -16,7 +17,7 @@ use Rattle.capi_file.proofs.tasks_from.Lts as lts
 use Rattle.capi_file.proofs.numbered_at.Reads as numbered-at-reads
 
 abbrev Inv-loop : tie.InvT-loop
-Inv-loop list tasks₀ i₀ tasks i = (i ≤ 32) × (length tasks ≡ 32) × (tasks ≡ padded 32 zeroNumbered (entriesOf (numberedAt list) 0 i))
+Inv-loop list tasks₀ i₀ tasks i = (i ≤ 32) × (length tasks ≡ 32) × (tasks ≡ padded 32 zeroNumbered (entries (numberedAt list) 0 i))
 
 abbrev μ-loop : tie.MeasureT-loop
 μ-loop list tasks₀ i₀ tasks i = 32 - i
@@ -45,7 +46,7 @@ loop-again c =
     let f = numberedAt (c .before .before .before .before .args .list .now) in (
       omega arith,
       simp length-set (l .inv .1),
-      ap (λ (x : List NumberedTask). set x (l .i) (c .numbered-at .result)) (l .inv .2) ∙ ap (set (padded 32 zeroNumbered (entriesOf f 0 (l .i))) (l .i)) (c .numbered-at .ensures) ∙ entries-store f 32 (l .i) zeroNumbered (omega arith),
+      ap (λ (x : List NumberedTask). set x (l .i) (c .numbered-at .result)) (l .inv .2) ∙ ap (set (padded 32 zeroNumbered (entries f 0 (l .i))) (l .i)) (c .numbered-at .ensures) ∙ entries-store f 32 (l .i) zeroNumbered (omega arith),
     )
 
 returns : tie.Need-returns Inv-loop μ-loop
@@ -53,7 +54,7 @@ returns c =
     let l = c .before .loop in
     let f = numberedAt (c .before .before .before .args .list .now) in
     let e : l .i ≡ 32 = omega arith in
-    l .inv .2 ∙ ap (λ (k : ℕ). padded 32 zeroNumbered (entriesOf f 0 k)) e ∙ entries-whole f 32 zeroNumbered
+    l .inv .2 ∙ ap (λ (k : ℕ). padded 32 zeroNumbered (entries f 0 k)) e ∙ entries-whole f 32 zeroNumbered
 
 pub tasks-from-spec : {M : Type 1} → statement M
 tasks-from-spec =

@@ -1,25 +1,34 @@
-use mathlib.Core.Path.{ap, _∙_}
-use Rattle.chain.specs.declared.Chain.{Chain}
+use mathlib.Core.Path.{_≡_, ap, _∙_}
 use Rattle.timing.specs.Answers.{ageOf}
+use Rattle.timing.specs.Standing.{age-stands}
+use Rattle.capi_chain.specs.FlatChain.{chainFrom}
+use Rattle.capi_chain.proofs.Given.{Given, given}
 use Rattle.capi_timing.specs.Calls.{spanCode, spanTicks}
 use Rattle.capi_timing.proofs.Small.{answer-small}
 use borrow.Author.Needs.{needs}
 use Rattle.capi_timing.proofs.mo_age.Statement.{statement}
 use Rattle.capi_timing.proofs.mo_age.Tie as tie
 
-chain-from-requires : tie.Need-chain-from-requires
-chain-from-requires c κs = search needs
+front : (c : tie.After-flat-length) → Given (c .before .before .args .tasks .now) (c .before .before .args .places) (c .flat-length .result)
+front c = given _ _ _ (c .flat-length .ensures)
 
-age-requires : tie.Need-age-requires
-age-requires c κs = search needs
+answer : (c : tie.After-age-on) → c .age-on .result ≡ ageOf (chainFrom (c .before .before .before .before .args .tasks .now) (c .before .before .before .before .args .places)) (c .before .before .before .before .args .z)
+answer c = c .age-on .ensures ∙ age-stands _ _ (front (c .before .before) .stands) _
+
+flat-length-requires : tie.Need-flat-length-requires
+flat-length-requires c κs = search needs
+
+slice-aggregate-age-on : tie.Need-slice-aggregate-age-on
+slice-aggregate-age-on c = front (c .before) .long
+
+age-on-requires : tie.Need-age-on-requires
+age-on-requires c κs = search needs
 
 give-requires : tie.Need-give-requires
-give-requires c κs = answer-small _ _ _ _ _ (c .before .age .ensures)
+give-requires c κs = answer-small _ _ _ _ _ (answer (c .before))
 
 returns : tie.Need-returns
-returns c =
-    let e = c .before .before .age .ensures ∙ ap (λ (x : Chain). ageOf x (c .before .before .before .before .before .args .z)) (c .before .before .before .chain-from .ensures) in
-    (c .give .ensures .0 ∙ ap spanCode e, c .give .ensures .1 ∙ ap spanTicks e)
+returns c = (c .give .ensures .0 ∙ ap spanCode (answer (c .before .before)), c .give .ensures .1 ∙ ap spanTicks (answer (c .before .before)))
 
 pub mo-age-spec : {M : Type 1} → statement M
-mo-age-spec = tie.close (tie.spec chain-from-requires age-requires give-requires returns)
+mo-age-spec = tie.close (tie.spec flat-length-requires slice-aggregate-age-on age-on-requires give-requires returns)

@@ -1,28 +1,38 @@
-use mathlib.Core.Path.{_≡_, sym, _∙_}
-use lib.ListN.{length, length-map}
-use Rattle.chain.proofs.CheckLaws.{checked, check-low, check-high, check-fault, check-hyper}
+use mathlib.Core.Path.{_∙_}
+use lib.ListN.{length-map}
+use Rattle.chain.proofs.Filling.{Lent, lent}
 use borrow.Author.Needs.{needs}
 use Rattle.chain.proofs.check.Statement.{statement}
 use Rattle.chain.proofs.check.Tie as tie
 
+front : (c : tie.After-flat-length) → Lent (c .before .before .args .c) (c .before .flat .result) (c .flat-length .result)
+front c = lent _ (simp length-map at (c .before .before .good .0 .1 .1 .0 .1 .0 .1)) _ (c .before .flat .ensures) _ (c .flat-length .ensures)
+
+flat-requires : tie.Need-flat-requires
+flat-requires c κs = search needs
+
+flat-length-requires : tie.Need-flat-length-requires
+flat-length-requires c κs = search needs
+
+array-share-prefix-tasks : tie.Need-array-share-prefix-tasks
+array-share-prefix-tasks c = front c .inside
+
+slice-aggregate-check-on : tie.Need-slice-aggregate-check-on
+slice-aggregate-check-on c = front (c .before) .long
+
+check-on-requires : tie.Need-check-on-requires
+check-on-requires c κs = search needs
+
 returns : tie.Need-returns
-returns c = check-low _ (c .if1 .taken)
-
-returns-2 : tie.Need-returns-2
-returns-2 c = check-high _ (c .before .before .if1 .left) (c .if2 .taken)
-
-first-fault-requires : tie.Need-first-fault-requires
-first-fault-requires c κs = search needs
-
-returns-3 : tie.Need-returns-3
-returns-3 c = check-fault _ (c .before .before .before .before .if1 .left) (c .before .before .if2 .left) _ (c .before .first-fault .ensures) (c .if3 .taken)
-
-hyper-verdict-requires : tie.Need-hyper-verdict-requires
-hyper-verdict-requires c κs =
-    checked _ (simp length-map at (c .before .before .before .before .before .before .good .0 .1 .1 .0 .1 .0 .1)) (c .before .before .before .before .if1 .left) (c .before .before .if2 .left) (sym (c .before .first-fault .ensures) ∙ c .if3 .left)
-
-returns-4 : tie.Need-returns-4
-returns-4 c = c .hyper-verdict .ensures ∙ check-hyper _ (c .before .before .before .before .before .if1 .left) (c .before .before .before .if2 .left) (sym (c .before .if3 .left) ∙ c .before .before .first-fault .ensures)
+returns c = c .check-on .ensures ∙ front (c .before .before) .stands .verdict
 
 pub check-spec : {M : Type 1} → statement M
-check-spec = tie.close (tie.spec returns returns-2 first-fault-requires returns-3 hyper-verdict-requires returns-4)
+check-spec =
+    tie.close
+    (tie.spec
+    flat-requires
+    flat-length-requires
+    array-share-prefix-tasks
+    slice-aggregate-check-on
+    check-on-requires
+    returns)

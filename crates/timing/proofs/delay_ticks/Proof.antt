@@ -1,48 +1,57 @@
 use native.Mathlib.Omega.{arith}
-use Rattle.timing.proofs.Whole.{some, few, first-within, press-small, end-small, end-after, delay-is}
+use mathlib.Core.Path.{ap}
+use Rattle.task.specs.declared.Task.{Task}
+use Rattle.chain.specs.Flat.{in-last}
+use Rattle.timing.proofs.Whole.{some-place, last-inside, last-place-small, press-small, end-small, end-after, delay-is}
 use borrow.Author.Needs.{needs}
 use Rattle.timing.proofs.delay_ticks.Statement.{statement}
 use Rattle.timing.proofs.delay_ticks.Tie as tie
 
 sub-n : tie.Need-sub-n
-sub-n c = some _ (c .pre .0)
+sub-n c = some-place _ (c .before .pre .0)
 
-element-copy-out-first : tie.Need-element-copy-out-first
-element-copy-out-first c = search needs
+task-at-requires : tie.Need-task-at-requires
+task-at-requires c κs = search needs
 
 earliest-after-requires : tie.Need-earliest-after-requires
-earliest-after-requires c κs = (first-within _ (c .before .pre .0) .period-pos, omega (arith, c .before .pre .1))
+earliest-after-requires c κs =
+    let s = c .before .before in
+    let k = s .pre .0 in
+    (omega (arith, ap (λ (x : Task). x .period) (c .task-at .ensures), k .each 0 (k .some) .period-pos), omega (arith, s .pre .1))
 
-forward-requires : tie.Need-forward-requires
-forward-requires c κs =
-    let k = c .before .before .pre .0 in
-    (k, omega arith, omega (arith, some _ k), press-small _ k _ (c .before .before .pre .1) _ (c .earliest-after .ensures))
+forward-on-requires : tie.Need-forward-on-requires
+forward-on-requires c κs =
+    let s = c .before .before .before in
+    let k = s .pre .0 in
+    (k, omega arith, last-inside _ k, press-small _ k _ (s .pre .1) _ (c .before .task-at .ensures) _ (c .earliest-after .ensures))
 
-mul-last : tie.Need-mul-last
-mul-last c = omega (arith, some _ (c .before .before .before .pre .0), few _ (c .before .before .before .pre .0))
-
-element-copy-out-last : tie.Need-element-copy-out-last
-element-copy-out-last c = omega (arith, some _ (c .before .before .before .pre .0), few _ (c .before .before .before .pre .0))
+task-at-requires-2 : tie.Need-task-at-requires-2
+task-at-requires-2 c κs = let k = c .before .before .before .before .pre .0 in (last-inside _ k, last-place-small _ k)
 
 write-requires : tie.Need-write-requires
-write-requires c κs = end-small _ (c .before .before .before .before .pre .0) _ (c .before .before .before .before .pre .1) _ (c .before .before .earliest-after .ensures) _ (c .before .forward .ensures)
+write-requires c κs =
+    let s = c .before .before .before .before .before in
+    end-small _ (s .pre .0) _ (s .pre .1) _ (c .before .before .before .task-at .ensures) _ (c .before .before .earliest-after .ensures) _ (in-last (s .args .tasks .now)) _ (c .task-at2 .ensures) _ (c .before .forward-on .ensures)
 
 sub-result : tie.Need-sub-result
-sub-result c = end-after _ (c .before .before .before .before .before .before .before .pre .0) _ (c .before .before .before .before .before .before .before .pre .1) _ (c .before .before .before .before .before .earliest-after .ensures) _ (c .before .before .before .before .forward .ensures) _ (c .before .before .write .ensures)
+sub-result c =
+    let s = c .before .before .before .before .before .before .before .before in
+    end-after _ (s .pre .0) _ (s .pre .1) _ (c .before .before .before .before .before .before .task-at .ensures) _ (c .before .before .before .before .before .earliest-after .ensures) _ (in-last (s .args .tasks .now)) _ (c .before .before .before .task-at2 .ensures) _ (c .before .before .before .before .forward-on .ensures) _ (c .before .before .write .ensures)
 
 returns : tie.Need-returns
-returns c = delay-is _ (c .before .before .before .before .before .before .before .pre .0) _ (c .before .before .before .before .before .before .before .pre .1) _ (c .before .before .before .before .before .earliest-after .ensures) _ (c .before .before .before .before .forward .ensures) _ (c .before .before .write .ensures)
+returns c =
+    let s = c .before .before .before .before .before .before .before .before in
+    delay-is _ (s .pre .0) _ (s .pre .1) _ (c .before .before .before .before .before .before .task-at .ensures) _ (c .before .before .before .before .before .earliest-after .ensures) _ (in-last (s .args .tasks .now)) _ (c .before .before .before .task-at2 .ensures) _ (c .before .before .before .before .forward-on .ensures) _ (c .before .before .write .ensures)
 
 pub delay-ticks-spec : {M : Type 1} → statement M
 delay-ticks-spec =
     tie.close
     (tie.spec
     sub-n
-    element-copy-out-first
+    task-at-requires
     earliest-after-requires
-    forward-requires
-    mul-last
-    element-copy-out-last
+    forward-on-requires
+    task-at-requires-2
     write-requires
     sub-result
     returns)

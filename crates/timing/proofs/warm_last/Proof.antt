@@ -1,19 +1,19 @@
 use native.Mathlib.Omega.{arith}
-use Rattle.timing.proofs.Whole.{some, start-fits, warm-last-is}
-use borrow.Author.Needs.{needs}
+use Rattle.chain.specs.Flat.{in-last}
+use Rattle.timing.proofs.Whole.{some-place, last-inside, start-fits, warm-last-is}
 use Rattle.timing.proofs.warm_last.Statement.{statement}
 use Rattle.timing.proofs.warm_last.Tie as tie
 
-sub-forward : tie.Need-sub-forward
-sub-forward c = some _ (c .before .pre)
+sub-forward-on : tie.Need-sub-forward-on
+sub-forward-on c = some-place _ (c .before .pre)
 
-forward-requires : tie.Need-forward-requires
-forward-requires c κs =
+forward-on-requires : tie.Need-forward-on-requires
+forward-on-requires c κs =
     let k = c .before .pre in
-    (k, omega arith, omega (arith, some _ k), start-fits _ k)
+    (k, omega arith, last-inside _ k, start-fits _ k)
 
 returns : tie.Need-returns
-returns c = warm-last-is _ (c .before .before .pre) _ (c .forward .ensures)
+returns c = warm-last-is _ (c .before .before .pre) _ (in-last (c .before .before .args .tasks .now)) _ (c .forward-on .ensures)
 
 pub warm-last-spec : {M : Type 1} → statement M
-warm-last-spec = tie.close (tie.spec sub-forward forward-requires returns)
+warm-last-spec = tie.close (tie.spec sub-forward-on forward-on-requires returns)

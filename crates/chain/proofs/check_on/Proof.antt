@@ -1,0 +1,36 @@
+use native.Mathlib.Omega.{arith}
+use Prim.Native.Nat.{_≤_}
+use mathlib.Core.Path.{sym, _∙_}
+use lib.ListN.{length}
+use Rattle.chain.specs.Flat.{tasksIn, in-count}
+use Rattle.chain.proofs.CheckLaws.{sound, check-low, check-high, check-fault, check-hyper}
+use Rattle.chain.proofs.check_on.Statement.{statement}
+use Rattle.chain.proofs.check_on.Tie as tie
+
+-- the number of tasks, after the check of 8
+low : (c : tie.Else2) → 1 ≤ length (tasksIn (c .before .before .before .args .tasks .now))
+low c = omega (arith, in-count (c .before .before .before .args .tasks .now), c .before .if1 .left)
+
+high : (c : tie.Else2) → length (tasksIn (c .before .before .before .args .tasks .now)) ≤ 12
+high c = omega (arith, in-count (c .before .before .before .args .tasks .now), c .if2 .left)
+
+returns : tie.Need-returns
+returns c = check-low _ _ (omega (arith, in-count (c .before .before .args .tasks .now), c .if1 .taken))
+
+returns-2 : tie.Need-returns-2
+returns-2 c = let e = in-count (c .before .before .before .args .tasks .now) in check-high _ _ (omega (arith, e, c .before .if1 .left)) (omega (arith, e, c .if2 .taken))
+
+first-fault-requires : tie.Need-first-fault-requires
+first-fault-requires c κs = high c
+
+returns-3 : tie.Need-returns-3
+returns-3 c = check-fault _ _ (low (c .before .before)) (high (c .before .before)) _ (c .before .first-fault .ensures) (c .if3 .taken)
+
+hyper-verdict-requires : tie.Need-hyper-verdict-requires
+hyper-verdict-requires c κs = sound _ (low (c .before .before)) (high (c .before .before)) (sym (c .before .first-fault .ensures) ∙ c .if3 .left)
+
+returns-4 : tie.Need-returns-4
+returns-4 c = c .hyper-verdict .ensures ∙ check-hyper _ _ (low (c .before .before .before)) (high (c .before .before .before)) (sym (c .before .if3 .left) ∙ c .before .before .first-fault .ensures)
+
+pub check-on-spec : {M : Type 1} → statement M
+check-on-spec = tie.close (tie.spec returns returns-2 first-fault-requires returns-3 hyper-verdict-requires returns-4)

@@ -1,0 +1,32 @@
+-- A list from a rule, as the entries of an array.
+use Prim.Native.Nat.{ℕ, zero, suc, _+_, _<_}
+use native.Mathlib.Omega.{arith}
+use mathlib.Core.Path.{_≡_, refl, sym, ap, _∙_}
+use mathlib.Core.List.{List, [], _∷_}
+use lib.ListN.{length, getD}
+use lib.Seq.{ext-getD}
+
+-- f at p, p + 1, and so on, n in all.
+unfoldable pub entries : {A : Type 0} → (ℕ → A) → ℕ → ℕ → List A
+entries f p zero = []
+entries f p (suc n) = f p ∷ entries f (suc p) n
+
+module _ {A : Type 0} (f : ℕ → A) where
+  pub entries-length : (p n : ℕ) → length (entries f p n) ≡ n
+  unfolding entries
+  entries-length p zero = refl
+  entries-length p (suc n) = ap suc (entries-length (suc p) n)
+
+  module _ (d : A) where
+    entries-from : (p n i : ℕ) → i < n → getD (entries f p n) i d ≡ f (p + i)
+    unfolding entries
+    entries-from p zero i h = absurd (omega arith)
+    entries-from p (suc n) zero h = let e : p + 0 ≡ p = omega arith in rw e
+    entries-from p (suc n) (suc i) h = let e : p + suc i ≡ suc p + i = omega arith in rw e (entries-from (suc p) n i (omega arith))
+
+    pub entries-at : (n i : ℕ) → i < n → getD (entries f 0 n) i d ≡ f i
+    entries-at n i h = let e : 0 + i ≡ i = omega arith in entries-from 0 n i h ∙ ap f e
+
+    -- a list whose entries follow the rule
+    pub entries-are : (l : List A) (n : ℕ) → length l ≡ n → ((i : ℕ) → i < n → f i ≡ getD l i d) → entries f 0 n ≡ l
+    entries-are l n e each = ext-getD d (entries f 0 n) l (entries-length 0 n ∙ sym e) (λ i h. entries-at n i (omega (arith, entries-length 0 n)) ∙ each i (omega (arith, entries-length 0 n)))
