@@ -1,2 +1,3 @@
 pub mod FlatSchedule
 pub mod Calls
+pub mod GivenBack

@@ -1,11 +1,11 @@
 -- Demand 2: a schedule file has one spelling. Writing after reading returns the file (`write-after-read`), reading after writing returns the schedule
 -- (`read-after-write`), and every file that reading accepts is the file of exactly one schedule: of the one that was read (`read-arrays`, `spelt-again`, `written-again`), and of no other (`one-schedule`).
-use Prim.Native.Nat.{ℕ, _+_, _≤_, _<_}
+use Prim.Native.Nat.{ℕ, _≤_}
 use native.Mathlib.Omega.{arith}
 use mathlib.Core.Path.{_≡_, refl, sym, ap, _∙_}
 use mathlib.Core.Bool.{cond}
 use mathlib.Core.List.{List, _++_, map}
-use lib.Dec.{leb, eqb}
+use lib.Dec.{eqb}
 use lib.ListN.{length, drop}
 use lib.Seq.{length-take-le}
 use borrow.Author.Tests.{le-leb}
@@ -14,16 +14,16 @@ use Rattle.refusal.specs.Refusals.{refusal, none}
 use Rattle.little_endian.specs.LittleEndian.{Bytes}
 use Rattle.schedule.specs.declared.NumberedTask.{NumberedTask}
 use Rattle.schedule.specs.declared.Schedule.{Schedule}
-use Rattle.schedule.specs.Schedules.{numberOf, tasksIn, placesIn, padded, zeroNumbered, scheduleOf, emptySchedule}
+use Rattle.schedule.specs.Schedules.{numberOf, tasksIn, placesIn, zeroNumbered, scheduleOf, emptySchedule}
 use Rattle.schedule.specs.Padding.{take-padded, length-padded}
 use Rattle.file_reader.specs.declared.FileRead.{FileRead}
-use Rattle.file_reader.specs.Reading.{acceptedFile, readFile}
+use Rattle.file_reader.specs.Reading.{readFile}
 use Rattle.file_writer.specs.declared.Written.{Written}
 use Rattle.file_writer.specs.declared.Written.the-variants as written
 use Rattle.file_writer.specs.FileBytes.{fileOf, fileBytes}
 use Rattle.file_writer.specs.Writing.{firstFault, firstUnknown, leftBytes, lengthVerdict, writtenOf}
 use Rattle.file_writer.specs.Accepted.{Accepted, accepted}
-use Rattle.file_writer.proofs.Faults.{long-enough, length-judged}
+use Rattle.file_writer.proofs.Faults.{length-judged}
 use Rattle.round_trip.specs.Right.{Right}
 use Rattle.round_trip.specs.ReadAfterWrite.{read-of-file}
 use Rattle.round_trip.specs.WriteAfterRead.{Ends, file-of-read}
@@ -134,6 +134,10 @@ module _ (b : List ℕ) (is : Bytes b) (fine : readFile b .refusal .number ≡ 0
     tasks = ap (λ (r : FileRead). length (r .schedule .tasks)) (ends .is) ∙ length-padded zeroNumbered 32 (ends .tasks) (ends .right .few);
     chain = ap (λ (r : FileRead). length (r .schedule .chain)) (ends .is) ∙ length-padded 0 12 (ends .chain) (ends .right .few-places);
   }
+
+  pub read-counts : (readFile b .schedule .count ≤ 32) × (readFile b .schedule .places ≤ 12)
+  read-counts =
+      (omega (arith, ap (λ (r : FileRead). r .schedule .count) (ends .is), ends .right .few), omega (arith, ap (λ (r : FileRead). r .schedule .places) (ends .is), ends .right .few-places))
 
   -- and of no other.
   pub one-schedule : (s : Schedule) (lent n : ℕ) → Arrays s → writtenOf s lent ≡ written.Bytes n → fileBytes s ≡ b → cleared s ≡ readFile b .schedule
