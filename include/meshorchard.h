@@ -4,8 +4,8 @@
  * All times are whole ticks; a tick is 1 microsecond. The calls keep nothing, allocate nothing and always return. They answer for any
  * values: none of the arguments has to be checked first.
  *
- * Lists and numbers are lent for the time of a call. A list is a pointer and the number of its entries; only mo_make_table and
- * mo_write_file write to lists. A number that a call gives is lent as a pointer, several of them as an array that the call writes whole.
+ * Lists and numbers are lent for the time of a call. A list is a pointer and the number of its entries; only mo_make_table,
+ * mo_write_file and mo_report write to lists. A number that a call gives is lent as a pointer, several of them as an array that the call writes whole.
  * No pointer may be null, also that of a list of 0 entries, and each must point to as many entries as are named. The numbers, arrays and
  * lists that a call writes lie apart from each other and from all else that is lent to it.
  *
@@ -16,6 +16,7 @@
  *   libcapi_maker.a     mo_make_table
  *   libcapi_windows.a   mo_windows
  *   libcapi_file.a      mo_read_file, mo_write_file, mo_chain_of_schedule
+ *   libcapi_report.a    mo_report
  */
 #ifndef MESHORCHARD_H
 #define MESHORCHARD_H
@@ -47,7 +48,7 @@ extern "C" {
 #define MO_WINDOW_OUTSIDE_LIMITS 15u   /* windows: k is not 1 to 100 */
 
 /*
- * Every call but mo_read_table and mo_chain_of_schedule answers a code: 0 for a success, else a refusal's number and 256 times its place.
+ * Every call but mo_read_table, mo_chain_of_schedule and mo_report answers a code: 0 for a success, else a refusal's number and 256 times its place.
  * The place is
  *   in every refusal of mo_read_file a byte offset, from 0;
  *   else, for MO_TASK_OUTSIDE_LIMITS, the task's place in the chain, of mo_write_file its position in the schedule, from 1;
@@ -258,6 +259,29 @@ uint64_t mo_write_file(const uint64_t *tasks, size_t tasks_length, size_t count,
  */
 uint64_t mo_chain_of_schedule(const uint64_t *tasks, size_t tasks_length, size_t count,
                               const uint64_t *chain, size_t chain_length, size_t places, uint64_t flat[36]);
+
+/*
+ * The report of a schedule file, as the program chainreport prints it: the chain's table, made with 1,024 slots and cut at the longest
+ * period, and its figures, as lines of text that end in LF,
+ *
+ *     warm 0
+ *     hyper 12
+ *     anchors 2
+ *     a 0 18
+ *     a 8 16
+ *     max 18
+ *     low 10
+ *     mean 174 12
+ *     walked 2
+ *
+ * or the one line "refused N P", N being the refusal's number and P its place: what mo_read_file refuses the bytes with, or else
+ * MO_HYPERPERIOD_TOO_LONG, or MO_LISTS_TOO_SHORT where there are more than 1,024 anchors, both at 0.
+ *
+ * The answer is no code but the length of the text, at most MO_LONGEST_REPORT. The first bytes of out become the text, as many of them as
+ * there are; the others keep their content. The bytes of the file are not written. The call needs about 20,000 bytes of stack.
+ */
+#define MO_LONGEST_REPORT 23000u
+uint64_t mo_report(const uint8_t *bytes, size_t bytes_length, uint8_t *out, size_t out_length);
 
 #ifdef __cplusplus
 }

@@ -58,7 +58,7 @@ def table(starts, latencies, g, h):
 class Library:
     def __init__(self, path):
         self.c = ctypes.CDLL(path)
-        for name in ("mo_check", "mo_warm_up", "mo_delay", "mo_age", "mo_make_table", "mo_read_table", "mo_greatest", "mo_low", "mo_mean", "mo_throughput", "mo_exceedance", "mo_windows", "mo_read_file", "mo_write_file", "mo_chain_of_schedule"):
+        for name in ("mo_check", "mo_warm_up", "mo_delay", "mo_age", "mo_make_table", "mo_read_table", "mo_greatest", "mo_low", "mo_mean", "mo_throughput", "mo_exceedance", "mo_windows", "mo_read_file", "mo_write_file", "mo_chain_of_schedule", "mo_report"):
             getattr(self.c, name).restype = U64
 
     def numbers(self, call, count, *arguments):
@@ -174,3 +174,11 @@ class Library:
         if given > 12 or any(numbers[3 * given:]):
             return ("left", given, tasks)
         return tasks[:given]
+
+    def report(self, data, out):
+        """The length of a report, and what the lent bytes hold after it. No call may write past them or to the file's bytes."""
+        file, lent = ctypes.create_string_buffer(data + FENCE), ctypes.create_string_buffer(out + FENCE)
+        length = self.c.mo_report(file, SIZE(len(data)), lent, SIZE(len(out)))
+        if lent.raw[len(out):-1] != FENCE or file.raw[:-1] != data + FENCE:
+            return ("changed", length, lent.raw)
+        return length, lent.raw[:len(out)]

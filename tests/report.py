@@ -1,9 +1,9 @@
-"""The program chainreport against the reference's report, on fixed random, boundary and damaged files.
+"""The program chainreport and the call mo_report against the reference's report, on fixed random, boundary and damaged files.
 
     python3 tests/report.py [--count FACTOR] [--seed SEED]
 
-Runs the program once for each file. Each group prints its number of files; the last line is 'N passed, M failed', in groups.
-A disagreement is printed with its file.
+Runs the program once for each file, and the call with bytes enough and with too few. Each group prints its number of files; the last
+line is 'N passed, M failed', in groups. A disagreement is printed with its file.
 """
 import argparse
 import glob
@@ -18,6 +18,7 @@ HERE = os.path.dirname(os.path.abspath(__file__))
 TOP = os.path.dirname(HERE)
 sys.path[:0] = [HERE, os.path.join(TOP, "reference"), os.path.join(TOP, "examples")]
 import inputs
+import library
 import make
 import meshorchard_reference as reference
 
@@ -43,6 +44,14 @@ def build():
 
 def printed(data):
     return subprocess.run([PROGRAM], input=data, stdout=subprocess.PIPE, check=True).stdout
+
+
+def called(calls, r, data, text):
+    """Whether the call leaves the text in lent bytes of some length, as much of it as fits, and answers its length.
+
+    The program reads no more than 4,096 bytes; the call is lent those."""
+    old = bytes(r.randrange(256) for _ in range(r.choice([len(text) + 9, len(text), r.randint(0, len(text))])))
+    return calls.report(data[:4096], old) == (len(text), (text + old[len(text):])[:len(old)])
 
 
 # ---- files
@@ -200,16 +209,20 @@ def main():
     parser.add_argument("--seed", type=int, default=20261115)
     chosen = parser.parse_args()
     build()
-    print(f"chainreport against the reference, seed {chosen.seed}, count {chosen.count}")
+    calls = library.build()
+    print(f"chainreport and mo_report against the reference, seed {chosen.seed}, count {chosen.count}")
     passed = failed = files = 0
     for run in GROUPS:
         began, made, wrong, broken = time.time(), 0, [], ""
+        lengths = random.Random(chosen.seed)
         try:
             for data in run(random.Random(f"{chosen.seed} {run.__name__}"), chosen.count):
                 made += 1
                 mine, other = printed(data), reference.report(data)
                 if mine != other:
                     wrong.append((data, mine, other))
+                elif not called(calls, lengths, data, other):
+                    wrong.append((data, b"(by the call)", other))
         except AssertionError as fault:
             broken = f", not as it should be {fault}"
         print(f"{run.__doc__.strip()}: {made} files, {len(wrong)} disagree{broken} ({time.time() - began:.1f} s)")
