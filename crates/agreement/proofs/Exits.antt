@@ -36,7 +36,7 @@ use Rattle.agreement.specs.Compare.{sameDelay, sameUpTo, sameEntries, sa
 use Rattle.agreement.specs.ReadsAsWalk.{canonical-few}
 use Rattle.agreement.specs.MadeTable.{done, starts-length, latencies-length}
 use Rattle.agreement.specs.Reached.{Reached, anchor-reaches}
-use Rattle.agreement.specs.Agreement.{SameDelay, SameAnchors, SameGreatest, table-is-walk, cuts-agree, greatest-is-delay-and-age}
+use Rattle.agreement.specs.Agreement.{SameGreatest, table-is-walk, cuts-agree, greatest-is-delay-and-age}
 
 pub both-ticks : (w : Span) (x : Reading) (a b : ℕ) → w ≡ span.Ticks a → x ≡ read.Delay b → eqb a b ≡ sameDelay w x
 both-ticks w x a b e f = sym (ap (λ (y : Span). sameDelay y x) e ∙ ap (sameDelay (span.Ticks a)) f)

@@ -1,9 +1,9 @@
 -- The third demand, sentence by sentence, about every chain whose array has its twelve entries. A table is completed where making is
 -- not refused; it is read with the g and H that making answered and the lists as making left them, whatever they held before and hold from g on.
-use Prim.Native.Nat.{ℕ, zero, suc, _+_, _≤_, _<_}
+use Prim.Native.Nat.{ℕ, zero, suc, _≤_, _<_}
 use native.Mathlib.Omega.{arith}
 use mathlib.Core.Path.{_≡_, refl, sym, ap, _∙_, subst}
-use mathlib.Core.Bool.{true, cond}
+use mathlib.Core.Bool.{true}
 use mathlib.Core.List.{List, [], _∷_}
 use lib.ListN.{length, getD, length-map}
 use borrow.Author.Tests.{le-ltb}

@@ -1,15 +1,13 @@
 -- The greatest latency of a chain's anchors is the greatest delay at any tick from the warm-up tick on (`greatest-delay-is`), and one more than
 -- the greatest age at any tick that has one (`greatest-age-is`). Both are reached before tick 200,000,000.
-use Prim.Native.Nat.{ℕ, zero, suc, _+_, _-_, _*_, _/_, _%_, _≤_, _<_}
+use Prim.Native.Nat.{ℕ, suc, _+_, _-_, _*_, _/_, _%_, _≤_, _<_}
 use native.Mathlib.Nat.{div-add-mod', mod-lt}
 use native.Mathlib.Decide.{decLt}
 use native.Mathlib.Omega.{arith}
 use mathlib.Core.Path.{_≡_, refl, sym, ap, _∙_}
 use mathlib.Core.Logic.{_↔_}
-use mathlib.Core.List.{List, [], _∷_}
-use lib.ListN.{length}
+use mathlib.Core.List.{List}
 use Rattle.task.specs.declared.Task.{Task}
-use Rattle.task.specs.declared.Job.{Job}
 use Rattle.task.specs.declared.Latest.{Latest}
 use Rattle.task.specs.declared.Latest.the-variants.{Of, Nothing}
 use Rattle.task.specs.Jobs.{readOf, writeOf}
@@ -18,10 +16,10 @@ use Rattle.task.specs.LinkLaws.{AtLeast, after-less, read-mono, latest-is}
 use Rattle.chain.specs.Chains.{at, lastPlace, onLatest, walk, back, jobOf}
 use Rattle.chain.specs.Checks.{Sound}
 use Rattle.chain.specs.Hyperperiod.{hyperOf}
-use Rattle.chain.specs.Galois.{Periods, galois}
+use Rattle.chain.specs.Galois.{galois}
 use Rattle.timing.specs.WarmUp.{warmLast, warmAt, warmTick}
 use Rattle.timing.specs.Delay.{delayAt, firstAged, ageAt}
-use Rattle.timing.specs.WarmLaws.{Found, found, at-least-job, periods, warm-walk, warm-first, aged, back-there}
+use Rattle.timing.specs.WarmLaws.{found, at-least-job, periods, warm-walk, aged, back-there}
 use Rattle.timing.specs.WarmRanges.{warm-range}
 use Rattle.timing.specs.Period.{delay-periods}
 use Rattle.table.specs.Anchors.{firstStart}
@@ -29,7 +27,7 @@ use Rattle.table.specs.Reading as table
 use Rattle.table.specs.Figures.{greatest}
 use Rattle.table.specs.GreatestDelay.{GreatestFrom, greatest-delay}
 use Rattle.partition.specs.CutFree.{endWalk, canonical, write-less}
-use Rattle.agreement.specs.Jobs.{walk-mono, walk-warm, walk-next, walk-after, hyper-pos, end-after, latency-fits, next-read, delay-read, read-warm}
+use Rattle.agreement.specs.Jobs.{walk-mono, walk-warm, walk-next, walk-after, hyper-pos, end-after, latency-fits, delay-read, read-warm}
 use Rattle.agreement.specs.ReadsAsWalk.{canonical-cons, table-walk}
 use Rattle.agreement.specs.WellSpaced.{read-less, canonical-formed}
 

@@ -2,15 +2,13 @@
 use Prim.Native.Nat.{ℕ, zero, suc, _+_, _-_, _*_, _/_, _≤_, _<_}
 use native.Mathlib.Omega.{arith}
 use native.Mathlib.Decide.{decLt}
-use native.Mathlib.Nat.{mul-le-mul-right}
-use mathlib.Core.Path.{_≡_, refl, sym, ap, _∙_}
+use mathlib.Core.Path.{_≡_, ap}
 use mathlib.Core.Bool.{true}
 use mathlib.Core.List.{List}
-use lib.ListN.{length}
 use Rattle.task.specs.declared.Task.{Task}
 use Rattle.task.specs.Jobs.{readOf, writeOf, Within}
-use Rattle.task.specs.Links.{forwardLink, earliestAfter}
-use Rattle.task.specs.LinkLaws.{after-less, read-mono, forward-link-mono, forward-later, forward-wait}
+use Rattle.task.specs.Links.{earliestAfter}
+use Rattle.task.specs.LinkLaws.{after-less, read-mono, forward-link-mono, forward-wait}
 use Rattle.chain.specs.Chains.{at, lastPlace, forwardBy, walk}
 use Rattle.chain.specs.Checks.{Sound}
 use Rattle.chain.specs.Hyperperiod.{hyperOf}

@@ -1,7 +1,7 @@
 -- What each call gives when it returns, and that every refusal fits one number.
 use Prim.Native.Nat.{ℕ, _≤_, _<_}
 use native.Mathlib.Omega.{arith}
-use mathlib.Core.Path.{_≡_, refl, sym, ap, _∙_}
+use mathlib.Core.Path.{_≡_, sym, ap, _∙_}
 use mathlib.Core.List.{List, [], _∷_}
 use lib.ListN.{length}
 use Rattle.refusal.specs.declared.Refusal.{Refusal}
@@ -12,7 +12,7 @@ use Rattle.file_reader.specs.Reading.{readFile}
 use Rattle.file_reader.specs.Offsets.{read-small}
 use Rattle.file_writer.specs.declared.Written.{Written}
 use Rattle.file_writer.specs.declared.Written.the-variants.{Bytes, Refused}
-use Rattle.file_writer.specs.Writing.{writtenOf, Writes}
+use Rattle.file_writer.specs.Writing.{Writes}
 use Rattle.file_writer.specs.Positions.{written-small}
 use Rattle.capi_file.specs.FlatSchedule.{flatTasks}
 use Rattle.capi_file.specs.Calls.{GivesSchedule, GivesFile, writtenCode, writtenLength}

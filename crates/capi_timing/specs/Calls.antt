@@ -2,7 +2,6 @@
 use Prim.Native.Nat.{ℕ, _≤_, _<_}
 use mathlib.Core.Path.{_≡_}
 use mathlib.Core.List.{List, map}
-use Rattle.refusal.specs.declared.Refusal.{Refusal}
 use Rattle.refusal.specs.Refusals.{codeOf}
 use Rattle.task.specs.declared.Job.{Job}
 use Rattle.chain.specs.declared.Verdict.{Verdict}

@@ -6,7 +6,6 @@ use mathlib.Core.List.{List}
 use lib.ListN.{length}
 use Rattle.task.specs.declared.Task.{Task}
 use Rattle.task.specs.declared.Job.{Job}
-use Rattle.task.specs.declared.Latest.{Latest}
 use Rattle.task.specs.declared.Latest.the-variants.{Of, Nothing}
 use Rattle.task.specs.Links.{forwardLink, backwardLink}
 use Rattle.task.specs.Jobs.{readOf, writeOf}

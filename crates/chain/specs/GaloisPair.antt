@@ -1,9 +1,9 @@
 -- Laws of any two functions on job numbers, f forward and b counting back, of which f j < n exactly when j < b n; and a way along a chain as such a pair.
 -- The count back from n is how many jobs of the earlier place go forward to a job below n: 0 where there is none, else one more than the latest.
-use Prim.Native.Nat.{ℕ, zero, suc, _+_, _-_, _≤_, _<_}
+use Prim.Native.Nat.{ℕ, zero, suc, _+_, _≤_, _<_}
 use native.Mathlib.Omega.{arith}
 use native.Mathlib.Decide.{decLt, decLe}
-use mathlib.Core.Path.{_≡_, refl, sym, ap, _∙_}
+use mathlib.Core.Path.{_≡_}
 use mathlib.Core.Logic.{_↔_}
 use mathlib.Core.List.{List}
 use Rattle.task.specs.declared.Task.{Task}

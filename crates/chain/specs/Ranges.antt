@@ -1,7 +1,7 @@
 -- The ranges by which nothing overflows: each link and each job adds at most 5,000,000 ticks.
 use Prim.Native.Nat.{ℕ, zero, suc, _+_, _-_, _*_, _≤_, _<_}
 use native.Mathlib.Omega.{arith}
-use mathlib.Core.Path.{_≡_, refl, sym, ap, _∙_}
+use mathlib.Core.Path.{_≡_, refl, sym, ap}
 use mathlib.Core.List.{List}
 use lib.ListN.{length}
 use Rattle.task.specs.declared.Task.{Task}
@@ -9,9 +9,9 @@ use Rattle.task.specs.declared.Job.{Job}
 use Rattle.task.specs.declared.Latest.{Latest}
 use Rattle.task.specs.declared.Latest.the-variants.{Of, Nothing}
 use Rattle.task.specs.Jobs.{readOf, writeOf, Within}
-use Rattle.task.specs.Links.{forwardLink, backwardLink, earliestAfter, latestBy}
-use Rattle.task.specs.LinkLaws.{AtLeast, forward-later, forward-soon, backward-earlier, earliest-reads, earliest-soon, latest-is}
-use Rattle.chain.specs.Chains.{at, lastPlace, forwardBy, backwardBy, onLatest, walk, back, jobOf}
+use Rattle.task.specs.Links.{backwardLink}
+use Rattle.task.specs.LinkLaws.{forward-later, forward-soon, backward-earlier}
+use Rattle.chain.specs.Chains.{at, forwardBy, backwardBy, onLatest}
 use Rattle.chain.specs.Checks.{Sound}
 
 module _ (l : List Task) where

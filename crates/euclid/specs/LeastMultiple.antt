@@ -1,9 +1,9 @@
 -- Laws of the divisor and the multiple: Euclid's rule gives the greatest common divisor (`gcd-left`, `gcd-right`, `gcd-greatest`),
 -- and the multiple built on it is the least common one (`lcm-left`, `lcm-right`, `lcm-least`).
-use Prim.Native.Nat.{ℕ, zero, suc, _+_, _-_, _*_, _/_, _%_, _≤_, _<_, _∣_}
+use Prim.Native.Nat.{ℕ, zero, suc, _-_, _*_, _/_, _%_, _≤_, _∣_}
 use native.Mathlib.Omega.{arith}
 use native.Mathlib.Nat.{dvd-refl, dvd-zero, dvd-mod-iff, dvd-mul-left, dvd-mul-left-of-dvd, dvd-sub, div-mul-cancel, dvd-of-mul-dvd-mul-right, mul-dvd-mul-right, mul-dvd-mul-left, pos-of-dvd-of-pos, mod-lt, mul-comm, div-add-mod', le-div-iff-mul-le, le-of-dvd, mul-pos, mul-le-mul-left}
-use mathlib.Core.Path.{_≡_, refl, sym, ap, _∙_, subst}
+use mathlib.Core.Path.{_≡_, sym, ap, subst}
 use Rattle.euclid.specs.Divisor.{euclid, gcdOf, lcmOf}
 
 euclid-divides : (n a b : ℕ) → b ≤ n → (euclid n a b ∣ a) × (euclid n a b ∣ b)

@@ -1,16 +1,13 @@
 -- What each test of a record leads to: one law for each return of the functions that judge it.
-use Prim.Native.Nat.{ℕ, zero, suc, _+_, _-_, _*_, _/_, _≤_, _<_}
+use Prim.Native.Nat.{ℕ, _+_, _*_, _≤_, _<_}
 use native.Mathlib.Omega.{arith}
-use mathlib.Core.Path.{_≡_, refl, sym, ap, _∙_}
-use mathlib.Core.Bool.{Bool, true, false, cond, _&&_}
+use mathlib.Core.Path.{_≡_}
+use mathlib.Core.Bool.{Bool, cond}
 use mathlib.Core.List.{List}
-use lib.Dec.{ltb, leb, eqb}
 use lib.ListN.{length}
 use borrow.Author.Tests.{lt-ltb, le-ltb, le-leb, lt-leb, eq-eqb, ne-eqb}
-use Rattle.schedule.specs.declared.NumberedTask.{NumberedTask}
 use Rattle.schedule.specs.Schedules.{taskRule}
-use Rattle.file_reader.specs.declared.Record.{Record}
-use Rattle.file_reader.specs.declared.Record.the-variants.{Task, Chain, End, Fault}
+use Rattle.file_reader.specs.declared.Record.the-variants.{Task, Chain, Fault}
 use Rattle.file_reader.specs.Reading.{lengthField, kindField, placesField, taskField, chainField, lastOf, allKnown, taskRecord, chainRecord, endRecord, kindRecord, recordOf}
 
 -- ---- a task record

@@ -4,20 +4,18 @@ use native.Mathlib.Omega.{arith}
 use mathlib.Core.Path.{_≡_, refl, sym, ap, _∙_}
 use mathlib.Core.Bool.{cond}
 use mathlib.Core.List.{List, [], _∷_, _++_, map}
-use lib.Dec.{ltb}
 use lib.ListN.{length, set, take, drop, replicate, length-map, length-append, length-drop, drop-of-length-le}
 use lib.Seq.{drop-drop}
 use borrow.Author.Tests.{lt-ltb, le-ltb}
 use Rattle.refusal.specs.Refusals.{none}
 use Rattle.schedule.specs.declared.NumberedTask.{NumberedTask}
-use Rattle.schedule.specs.declared.Schedule.{Schedule}
 use Rattle.schedule.specs.Schedules.{numberOf, padded, zeroNumbered}
 use Rattle.schedule.specs.Padding.{padded-none, padded-set, take-padded, length-padded}
 use Rattle.file_reader.specs.declared.Record.{Record}
 use Rattle.file_reader.specs.declared.Record.the-variants.{Task, Chain, End, Fault}
 use Rattle.file_reader.specs.declared.FileRead.{FileRead}
 use Rattle.file_reader.specs.Reading.{chainField, recordOf, refusedFile, acceptedFile, afterRecord, readFrom, readFile}
-use Rattle.file_reader.specs.Records.{IsTask, IsChain, tells, length-numbers}
+use Rattle.file_reader.specs.Records.{tells, length-numbers}
 
 pub map-snoc : (ts : List NumberedTask) (t : NumberedTask) → map numberOf (ts ++ (t ∷ [])) ≡ map numberOf ts ++ (t .number ∷ [])
 map-snoc [] t = refl

@@ -2,21 +2,19 @@
 use Prim.Native.Nat.{ℕ, zero, suc, _+_, _*_, _≤_, _<_}
 use native.Mathlib.Omega.{arith}
 use mathlib.Core.Path.{_≡_, refl, sym, ap, _∙_}
-use mathlib.Core.Bool.{Bool, true, false, cond, _&&_}
+use mathlib.Core.Bool.{Bool, true, false, cond}
 use mathlib.Core.List.{List, [], _∷_, map}
-use lib.Dec.{leb}
-use lib.ListN.{length, take, length-map}
+use lib.ListN.{length, take}
 use lib.Seq.{length-take-le}
 use borrow.Author.Tests.{le-leb, lt-leb}
 use Rattle.refusal.specs.Refusals.{refusal}
 use Rattle.schedule.specs.declared.NumberedTask.{NumberedTask}
 use Rattle.schedule.specs.declared.Schedule.{Schedule}
-use Rattle.schedule.specs.Schedules.{numberOf, tasksIn, placesIn, taskRule, known, positionOf}
+use Rattle.schedule.specs.Schedules.{numberOf, tasksIn, placesIn, taskRule, positionOf}
 use Rattle.schedule.specs.Numbers.{known-position, unknown-position}
-use Rattle.file_writer.specs.declared.Written.{Written}
 use Rattle.file_writer.specs.declared.Written.the-variants.{Bytes, Refused}
 use Rattle.file_writer.specs.FileBytes.{fileBytes}
-use Rattle.file_writer.specs.Writing.{firstFault, firstUnknown, afterFault, countsRight, lengthVerdict, writtenOf}
+use Rattle.file_writer.specs.Writing.{firstFault, firstUnknown, afterFault, lengthVerdict, writtenOf}
 use Rattle.file_writer.specs.Lengths.{length-file}
 
 -- ---- 5, from the front

@@ -1,8 +1,8 @@
 -- What stores one after the other leave.
-use Prim.Native.Nat.{ℕ, zero, suc, _+_, _-_, _*_, _≤_, _<_}
+use Prim.Native.Nat.{ℕ, _+_, _*_, _≤_, _<_}
 use native.Mathlib.Omega.{arith}
 use mathlib.Core.Path.{_≡_, refl, sym, ap, _∙_}
-use mathlib.Core.List.{List, [], _∷_, _++_, append-assoc}
+use mathlib.Core.List.{List, _++_, append-assoc}
 use lib.ListN.{length, take, drop, getD, length-append}
 use lib.Seq.{sets, length-sets}
 use Rattle.little_endian.specs.LittleEndian.{bytesOf}
@@ -12,7 +12,7 @@ use Rattle.chain.proofs.Front.{front-cons, front-end}
 use Rattle.schedule.specs.declared.NumberedTask.{NumberedTask}
 use Rattle.schedule.specs.Schedules.{zeroNumbered}
 use Rattle.file_writer.specs.FileBytes.{taskBytes, tasksBytes, numbersBytes, chainBytes, endBytes, fileOf}
-use Rattle.file_writer.specs.Lengths.{length-task, length-tasks, length-chain, length-end, length-file}
+use Rattle.file_writer.specs.Lengths.{length-task, length-tasks, length-chain}
 
 -- two runs, the second w bytes on
 pub two-runs : (l m n : List ℕ) (at next : ℕ) (a b : List ℕ) → at + length a ≡ next → m ≡ sets l at a → n ≡ sets m next b → n ≡ sets l at (a ++ b)

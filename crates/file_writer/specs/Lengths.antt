@@ -1,10 +1,9 @@
 -- How long each part of a file is.
-use Prim.Native.Nat.{ℕ, zero, suc, _+_, _*_, _≤_}
+use Prim.Native.Nat.{ℕ, _+_, _*_}
 use native.Mathlib.Omega.{arith}
-use mathlib.Core.Path.{_≡_, refl, sym, ap, _∙_}
-use mathlib.Core.List.{List, [], _∷_, _++_}
+use mathlib.Core.Path.{_≡_, refl}
+use mathlib.Core.List.{List, [], _∷_}
 use lib.ListN.{length, length-append}
-use Rattle.little_endian.specs.LittleEndian.{bytesOf}
 use Rattle.little_endian.specs.Spelling.{length-bytes}
 use Rattle.schedule.specs.declared.NumberedTask.{NumberedTask}
 use Rattle.file_writer.specs.FileBytes.{taskBytes, tasksBytes, numbersBytes, chainBytes, endBytes, fileOf}

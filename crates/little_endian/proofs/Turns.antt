@@ -1,9 +1,9 @@
 -- What one turn of each loop does.
 use Prim.Native.Nat.{ℕ, zero, suc, _+_, _-_, _*_, _/_, _%_, _≤_, _<_}
 use native.Mathlib.Omega.{arith}
-use mathlib.Core.Path.{_≡_, refl, sym, ap, _∙_}
-use mathlib.Core.List.{List, [], _∷_}
-use lib.ListN.{length, getD, set, take, drop}
+use mathlib.Core.Path.{_≡_, ap, _∙_}
+use mathlib.Core.List.{List}
+use lib.ListN.{length, getD, set}
 use lib.Seq.{sets, drop-cons}
 use Rattle.little_endian.specs.LittleEndian.{valueOf, bytesOf, numberAt, power}
 use Rattle.little_endian.specs.Spelling.{power-four}

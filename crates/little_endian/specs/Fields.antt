@@ -1,11 +1,11 @@
 -- Fields of a list of bytes, at every width: a field that was put in front is read back, a field further on is read past what stands before it,
 -- and the bytes of a field are those of the number that it spells.
-use Prim.Native.Nat.{ℕ, zero, suc, _+_, _≤_, _<_}
+use Prim.Native.Nat.{ℕ, _+_, _≤_, _<_}
 use native.Mathlib.Omega.{arith}
 use native.Mathlib.Decide.{decLt}
-use mathlib.Core.Path.{_≡_, refl, sym, ap, _∙_}
-use mathlib.Core.List.{List, [], _∷_, _++_}
-use lib.ListN.{length, getD, take, drop, length-drop, List·getD-eq-default}
+use mathlib.Core.Path.{_≡_, sym, ap, _∙_}
+use mathlib.Core.List.{List, _++_}
+use lib.ListN.{length, take, drop, length-drop, List·getD-eq-default}
 use lib.Seq.{take-at, drop-append-add, drop-drop, take-add, getD-drop, getD-take, length-take-le}
 use Rattle.little_endian.specs.LittleEndian.{valueOf, bytesOf, numberAt, Bytes, power}
 use Rattle.little_endian.specs.Spelling.{length-bytes, value-of-bytes, bytes-of-value}

@@ -1,10 +1,9 @@
 -- One spelling, at every width: a number is read back from its bytes (`value-of-bytes`), and bytes are those of the number that they spell (`bytes-of-value`).
 use Prim.Native.Nat.{ℕ, zero, suc, _+_, _*_, _/_, _%_, _≤_, _<_}
 use native.Mathlib.Omega.{arith}
-use native.Mathlib.Nat.{div-lt-iff-lt-mul, div-add-mod', mod-lt, add-mul-div-right}
-use mathlib.Core.Path.{_≡_, refl, sym, ap, _∙_}
+use mathlib.Core.Path.{_≡_, refl, ap}
 use mathlib.Core.List.{List, [], _∷_}
-use lib.ListN.{length, getD}
+use lib.ListN.{length}
 use Rattle.little_endian.specs.LittleEndian.{valueOf, bytesOf, Bytes, power}
 
 pub length-bytes : (w x : ℕ) → length (bytesOf w x) ≡ w

@@ -9,11 +9,11 @@ use lib.ListN.{length, set, length-append}
 use lib.Seq.{sets, length-sets}
 use borrow.Author.Tests.{eq-eqb, ne-eqb}
 use Rattle.task.specs.declared.Task.{Task}
-use Rattle.table.specs.Anchors.{Anchor, anchor}
+use Rattle.table.specs.Anchors.{Anchor}
 use Rattle.partition.specs.declared.Partition.{Partition}
 use Rattle.maker.specs.declared.Count.{Count}
 use Rattle.partition.specs.Lists.{rangeFrom, put, keep, fresh}
-use Rattle.partition.specs.Partitions.{startOf, endOf, keeps, anchorOf, anchorsFrom, IsPartition}
+use Rattle.partition.specs.Partitions.{startOf, endOf, keeps, anchorOf, anchorsFrom}
 use Rattle.partition.specs.Selections.{range-length}
 use Rattle.maker.specs.Making.{startsOf, latenciesOf}
 use Rattle.maker.specs.Turn.{isAnchor, anchorAt, one, added, lastEnd, Added, Filled}

@@ -1,16 +1,15 @@
 -- The anchors of a chain do not depend on the place of the cut (`cut-free`): they are the anchors by the first place's jobs, which name no cut.
-use Prim.Native.Nat.{ℕ, zero, suc, _+_, _-_, _*_, _/_, _≤_, _<_}
+use Prim.Native.Nat.{ℕ, suc, _+_, _-_, _/_, _≤_, _<_}
 use native.Mathlib.Omega.{arith}
 use native.Mathlib.Numerals.{add-one}
 use native.Mathlib.Decide.{decLt}
 use native.Mathlib.Nat.{mul-le-mul-right}
 use mathlib.Core.Path.{_≡_, refl, sym, ap, _∙_, fun-ext}
-use mathlib.Core.Logic.{_↔_, _≢_}
+use mathlib.Core.Logic.{_≢_}
 use mathlib.Core.Bool.{Bool}
 use mathlib.Core.List.{List, map}
 use lib.ListN.{length}
 use Rattle.task.specs.declared.Task.{Task}
-use Rattle.task.specs.declared.Job.{Job}
 use Rattle.task.specs.declared.Latest.{Latest}
 use Rattle.task.specs.declared.Latest.the-variants.{Of, Nothing}
 use Rattle.task.specs.Jobs.{readOf, writeOf}
@@ -21,10 +20,10 @@ use Rattle.chain.specs.Hyperperiod.{hyperOf}
 use Rattle.chain.specs.Galois.{Periods, galois, forward-cut, backward-cut}
 use Rattle.chain.specs.GaloisPair.{countOf, countBack, pair}
 use Rattle.timing.specs.WarmUp.{warmLast, warmAt}
-use Rattle.timing.specs.WarmLaws.{periods, warm-walk, warm-first, warm-found}
+use Rattle.timing.specs.WarmLaws.{periods, warm-first, warm-found}
 use Rattle.timing.specs.Period.{backward-repeats, hyper-repeats}
 use Rattle.table.specs.Anchors.{Anchor, anchor}
-use Rattle.partition.specs.Lists.{rangeFrom, keep, dropRepeats}
+use Rattle.partition.specs.Lists.{dropRepeats}
 use Rattle.partition.specs.Partitions.{startOf, endOf, keeps, anchorOf, anchorsFrom, anchorsOf}
 use Rattle.partition.specs.Selections.{differ, select, keep-select}
 use Rattle.partition.specs.CanonicalAnchors.{anchors, canonicalFrom, anchors-canon}

@@ -1,10 +1,9 @@
 -- Reading what was written gives the tasks and the chain back.
-use Prim.Native.Nat.{ℕ, zero, suc, _+_, _-_, _*_, _≤_, _<_}
+use Prim.Native.Nat.{ℕ, suc, _+_, _-_, _*_, _≤_, _<_}
 use native.Mathlib.Omega.{arith}
 use mathlib.Core.Path.{_≡_, refl, sym, ap, _∙_}
-use mathlib.Core.Bool.{Bool, true, false, cond}
+use mathlib.Core.Bool.{Bool, true, cond}
 use mathlib.Core.List.{List, [], _∷_, _++_, map, append-assoc, append-nil}
-use lib.Dec.{ltb}
 use lib.ListN.{length, drop, length-append, length-map}
 use lib.Seq.{drop-at, getD-at}
 use borrow.Author.Tests.{le-ltb, eq-eqb, ne-eqb}
@@ -13,14 +12,13 @@ use Rattle.schedule.specs.declared.NumberedTask.{NumberedTask}
 use Rattle.schedule.specs.Schedules.{numberOf, taskRule}
 use Rattle.file_reader.specs.declared.Record.{Record}
 use Rattle.file_reader.specs.declared.Record.the-variants.{Task, Chain, End}
-use Rattle.file_reader.specs.declared.FileRead.{FileRead}
-use Rattle.file_reader.specs.Reading.{lengthField, kindField, placesField, taskField, chainField, lastOf, allKnown, taskRecord, chainRecord, endRecord, kindRecord, recordOf, refusedFile, acceptedFile, afterRecord, readFrom, readFile}
+use Rattle.file_reader.specs.Reading.{lengthField, kindField, placesField, taskField, chainField, lastOf, allKnown, endRecord, recordOf, refusedFile, acceptedFile, afterRecord, readFrom, readFile}
 use Rattle.file_reader.proofs.Going.{map-snoc}
 use Rattle.file_reader.proofs.Exits.{task-judged, chain-judged, record-kind, kind-task, kind-chain, kind-end}
 use Rattle.file_writer.specs.FileBytes.{taskBytes, tasksBytes, chainBytes, endBytes, fileOf}
-use Rattle.file_writer.specs.Writing.{firstFault, firstUnknown}
+use Rattle.file_writer.specs.Writing.{firstFault}
 use Rattle.file_writer.specs.Lengths.{length-task, length-chain, length-end}
-use Rattle.round_trip.specs.RecordBytes.{FitsTask, Small, task-front, head-length, head-kind, task-read, chain-front, chain-read}
+use Rattle.round_trip.specs.RecordBytes.{Small, task-front, head-length, head-kind, task-read, chain-front, chain-read}
 use Rattle.round_trip.specs.Right.{Right, rule-fits, fault-cons, unknown-all, chain-small}
 
 -- ---- one record

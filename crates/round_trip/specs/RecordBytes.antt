@@ -3,7 +3,7 @@ use Prim.Native.Nat.{ℕ, zero, suc, _+_, _*_, _≤_, _<_}
 use native.Mathlib.Omega.{arith}
 use mathlib.Core.Path.{_≡_, refl, sym, ap, _∙_}
 use mathlib.Core.List.{List, [], _∷_, _++_, append-assoc}
-use lib.ListN.{length, take, drop, length-append, length-drop, take-append-drop}
+use lib.ListN.{length, take, drop, length-append, take-append-drop}
 use lib.Seq.{take-all}
 use Rattle.little_endian.specs.LittleEndian.{bytesOf, numberAt, Bytes, power}
 use Rattle.little_endian.specs.Spelling.{length-bytes}
@@ -11,7 +11,6 @@ use Rattle.little_endian.specs.Fields.{number-front, number-past, bytes-of-numb
 use Rattle.schedule.specs.declared.NumberedTask.{NumberedTask}
 use Rattle.file_reader.specs.Reading.{lengthField, kindField, taskField, numbersFrom, chainField}
 use Rattle.file_writer.specs.FileBytes.{taskBytes, numbersBytes, chainBytes, endBytes}
-use Rattle.file_writer.specs.Lengths.{length-task, length-places, length-chain, length-end}
 
 -- Values that fit their fields.
 pub record FitsTask (t : NumberedTask) : Type 0 where

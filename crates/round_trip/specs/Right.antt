@@ -1,17 +1,16 @@
 -- Tasks and a chain that writing accepts and reading ends with.
-use Prim.Native.Nat.{ℕ, zero, suc, _+_, _-_, _≤_, _<_}
+use Prim.Native.Nat.{ℕ, suc, _+_, _-_, _≤_, _<_}
 use native.Mathlib.Omega.{arith}
-use mathlib.Core.Path.{_≡_, refl, sym, ap, _∙_}
+use mathlib.Core.Path.{_≡_, refl, ap, _∙_}
 use mathlib.Core.Bool.{Bool, true, false, cond}
 use mathlib.Core.List.{List, [], _∷_, _++_, map}
 use lib.Dec.{eqb}
-use lib.ListN.{length, getD, length-append, length-map}
-use lib.Seq.{getD-append-seam}
+use lib.ListN.{length, getD}
 use borrow.Author.Tests.{eqb-true}
 use Rattle.little_endian.specs.LittleEndian.{power}
 use Rattle.schedule.specs.declared.NumberedTask.{NumberedTask}
 use Rattle.schedule.specs.Schedules.{numberOf, taskRule, known}
-use Rattle.schedule.specs.Rule.{Rule, rule}
+use Rattle.schedule.specs.Rule.{rule}
 use Rattle.file_reader.specs.Reading.{lastOf, allKnown}
 use Rattle.file_writer.specs.Writing.{firstFault, firstUnknown}
 use Rattle.round_trip.specs.RecordBytes.{FitsTask, Small, none, more}

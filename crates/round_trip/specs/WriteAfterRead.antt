@@ -1,11 +1,10 @@
 -- Writing what was read gives the file back, byte for byte.
-use Prim.Native.Nat.{ℕ, zero, suc, _+_, _-_, _*_, _≤_, _<_}
+use Prim.Native.Nat.{ℕ, zero, suc, _+_, _*_, _≤_}
 use native.Mathlib.Omega.{arith}
 use native.Mathlib.Decide.{decLt}
 use mathlib.Core.Path.{_≡_, refl, sym, ap, _∙_}
-use mathlib.Core.Bool.{Bool, true, false, cond}
+use mathlib.Core.Bool.{Bool, cond}
 use mathlib.Core.List.{List, [], _∷_, _++_, map, append-assoc, append-nil}
-use lib.Dec.{ltb}
 use lib.ListN.{length, drop, length-append, length-map}
 use borrow.Author.Tests.{lt-ltb, le-ltb}
 use Rattle.little_endian.specs.LittleEndian.{Bytes}
@@ -17,8 +16,8 @@ use Rattle.file_reader.specs.declared.Record.the-variants.{Task, Chain, End, Fa
 use Rattle.file_reader.specs.declared.FileRead.{FileRead}
 use Rattle.file_reader.specs.Reading.{chainField, recordOf, refusedFile, acceptedFile, afterRecord, readFrom, readFile}
 use Rattle.file_reader.specs.Records.{IsTask, IsChain, IsEnd, Tells, tells, length-numbers}
-use Rattle.file_writer.specs.FileBytes.{taskBytes, tasksBytes, chainBytes, endBytes, fileOf}
-use Rattle.file_writer.specs.Writing.{firstFault, firstUnknown}
+use Rattle.file_writer.specs.FileBytes.{taskBytes, tasksBytes, chainBytes, fileOf}
+use Rattle.file_writer.specs.Writing.{firstFault}
 use Rattle.file_writer.proofs.Faults.{fault-none}
 use Rattle.round_trip.specs.RecordBytes.{task-back, chain-back, end-back}
 use Rattle.round_trip.specs.Right.{Right, fault-snoc, all-unknown}

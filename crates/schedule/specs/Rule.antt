@@ -5,7 +5,7 @@ use mathlib.Core.Path.{_≡_, refl}
 use mathlib.Core.Bool.{Bool, true, false, _&&_}
 use lib.Dec.{ltb, leb}
 use borrow.Author.Tests.{ltb-true, leb-true}
-use Rattle.task.specs.Jobs.{Within, withinLimits}
+use Rattle.task.specs.Jobs.{Within}
 use Rattle.task.specs.LinkLaws.{limits}
 use Rattle.schedule.specs.declared.NumberedTask.{NumberedTask}
 use Rattle.schedule.specs.Schedules.{taskRule}

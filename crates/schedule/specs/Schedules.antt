@@ -1,7 +1,7 @@
 -- Document 01, "Tasks and jobs" and "Schedule file": the tasks of a schedule with their numbers, and the tasks at the places of its chain.
-use Prim.Native.Nat.{ℕ, zero, suc, _+_}
+use Prim.Native.Nat.{ℕ, zero, suc}
 use mathlib.Core.Bool.{Bool, true, false, cond, _&&_}
-use mathlib.Core.List.{List, [], _∷_, _++_, map}
+use mathlib.Core.List.{List, [], _∷_, map}
 use lib.Dec.{ltb, leb, eqb}
 use lib.ListN.{length, take, replicate}
 use Rattle.task.specs.declared.Task.{Task}

@@ -1,5 +1,5 @@
 -- Periodicity: backward where there is a job, forward after the warm-up job, and so the delay from the warm-up tick on.
-use Prim.Native.Nat.{ℕ, zero, suc, _+_, _-_, _*_, _/_, _≤_, _<_}
+use Prim.Native.Nat.{ℕ, zero, suc, _+_, _*_, _/_, _≤_, _<_}
 use native.Mathlib.Omega.{arith}
 use native.Mathlib.Decide.{decLt}
 use mathlib.Core.Path.{_≡_, refl, sym, ap, _∙_}
@@ -9,7 +9,7 @@ use Rattle.task.specs.declared.Task.{Task}
 use Rattle.task.specs.declared.Job.{Job}
 use Rattle.task.specs.declared.Latest.{Latest}
 use Rattle.task.specs.declared.Latest.the-variants.{Of, Nothing}
-use Rattle.task.specs.Jobs.{readOf, writeOf}
+use Rattle.task.specs.Jobs.{writeOf}
 use Rattle.task.specs.Links.{earliestFrom, earliestAfter, backwardLink}
 use Rattle.task.specs.LinkLaws.{backward-period, earliest-period, earliest-reads, read-mono}
 use Rattle.chain.specs.Chains.{at, lastPlace, onLatest, backwardBy, walk, back}
@@ -19,7 +19,7 @@ use Rattle.timing.specs.WarmUp.{warmAt, warmTick}
 use Rattle.timing.specs.Delay.{delayAt}
 use Rattle.chain.specs.Multiples.{hyper-times}
 use Rattle.chain.specs.GaloisPair.{countOf, countBack, pair, f-period}
-use Rattle.timing.specs.WarmLaws.{periods, warm-count}
+use Rattle.timing.specs.WarmLaws.{warm-count}
 
 -- h is a multiple of the periods up to place p, each at least 1.
 abbrev pub Repeats : ℕ → List Task → ℕ → Type 0

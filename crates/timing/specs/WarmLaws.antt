@@ -3,7 +3,7 @@ use Prim.Native.Nat.{ℕ, zero, suc, _+_, _-_, _≤_, _<_}
 use native.Mathlib.Omega.{arith}
 use mathlib.Core.Path.{_≡_, refl, sym, ap, _∙_}
 use mathlib.Core.Logic.{_↔_}
-use mathlib.Core.Bool.{Bool, true, false, cond}
+use mathlib.Core.Bool.{Bool, true, false}
 use mathlib.Core.List.{List}
 use lib.ListN.{length}
 use Rattle.task.specs.declared.Task.{Task}
@@ -14,7 +14,6 @@ use Rattle.task.specs.LinkLaws.{AtLeast}
 use Rattle.chain.specs.Chains.{at, lastPlace, forwardBy, backwardBy, onLatest, walk, back, jobOf}
 use Rattle.chain.specs.Checks.{Sound}
 use Rattle.timing.specs.WarmUp.{isJob, reaches, leastFrom, warmLast, warmAt}
-use Rattle.task.specs.Jobs.{writeOf}
 use Rattle.task.specs.Links.{backwardLink, latestBy}
 use Rattle.task.specs.LinkLaws.{latest-is}
 use Rattle.timing.specs.Delay.{firstAged}

@@ -1,20 +1,19 @@
 -- The ranges of warm-up, delay and age, by which nothing overflows, of a chain that passes the checks 8 and 5.
-use Prim.Native.Nat.{ℕ, zero, suc, _+_, _-_, _*_, _≤_, _<_}
+use Prim.Native.Nat.{ℕ, _+_, _-_, _≤_, _<_}
 use native.Mathlib.Omega.{arith}
-use mathlib.Core.Path.{_≡_, refl, sym, ap, _∙_}
+use mathlib.Core.Path.{_≡_}
 use mathlib.Core.List.{List}
 use lib.ListN.{length}
 use Rattle.task.specs.declared.Task.{Task}
 use Rattle.task.specs.declared.Job.{Job}
-use Rattle.task.specs.declared.Latest.{Latest}
-use Rattle.task.specs.declared.Latest.the-variants.{Of, Nothing}
-use Rattle.task.specs.Jobs.{readOf, writeOf, Within}
-use Rattle.task.specs.Links.{forwardLink, backwardLink, earliestAfter, latestBy}
-use Rattle.task.specs.LinkLaws.{AtLeast, forward-later, forward-soon, backward-earlier, earliest-reads, earliest-soon, latest-is}
-use Rattle.chain.specs.Chains.{at, lastPlace, forwardBy, backwardBy, onLatest, walk, back, jobOf}
+use Rattle.task.specs.declared.Latest.the-variants.{Of}
+use Rattle.task.specs.Jobs.{readOf, writeOf}
+use Rattle.task.specs.Links.{earliestAfter, latestBy}
+use Rattle.task.specs.LinkLaws.{earliest-reads, earliest-soon, latest-is}
+use Rattle.chain.specs.Chains.{at, lastPlace, walk, back}
 use Rattle.chain.specs.Checks.{Sound}
 use Rattle.chain.specs.Ranges.{forward-fits, forward-late, backward-fits}
-use Rattle.timing.specs.WarmUp.{warmLast, warmAt, warmTick}
+use Rattle.timing.specs.WarmUp.{warmLast, warmAt}
 use Rattle.timing.specs.Delay.{firstAged}
 use Rattle.timing.specs.WarmLaws.{warm-walk, warm-found}
 

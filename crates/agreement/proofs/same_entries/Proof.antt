@@ -1,6 +1,6 @@
 use native.Mathlib.Omega.{arith}
-use Prim.Native.Nat.{ℕ, _≤_, _-_}
-use mathlib.Core.Path.{_≡_, refl, sym, _∙_}
+use Prim.Native.Nat.{_≤_}
+use mathlib.Core.Path.{_≡_, refl, _∙_}
 use Rattle.agreement.specs.Compare.{sameUpTo}
 use Rattle.agreement.proofs.Exits.{entries-short, entries-short-2, entries-long, entries-end, entries-differ, entries-same}
 use Rattle.agreement.proofs.same_entries.Statement.{statement}

@@ -1,5 +1,5 @@
 use native.Mathlib.Omega.{arith}
-use Prim.Native.Nat.{ℕ, _-_, _≤_, _<_}
+use Prim.Native.Nat.{_-_, _≤_}
 use mathlib.Core.Path.{_≡_, refl}
 use Rattle.capi_timing.proofs.Numbers.{Stored, stored-more, stored-all}
 use Rattle.capi_timing.proofs.job_numbers.Statement.{statement}

@@ -1,9 +1,9 @@
 use Rattle.little_endian.specs.LittleEndian.{numberAt}
 use native.Mathlib.Omega.{arith}
-use Prim.Native.Nat.{ℕ, _+_, _-_, _*_, _≤_, _<_}
-use mathlib.Core.Path.{_≡_, refl, sym, ap, _∙_}
+use Prim.Native.Nat.{_+_, _-_, _*_, _≤_, _<_}
+use mathlib.Core.Path.{_≡_, sym, _∙_}
 use borrow.Author.Needs.{needs}
-use lib.ListN.{length, take}
+use lib.ListN.{take}
 use Rattle.schedule.specs.Schedules.{positionOf}
 use Rattle.file_reader.specs.Reading.{numbersFrom, chainField, allKnown}
 use Rattle.file_reader.proofs.Fields.{all-on, all-off, all-end}

@@ -1,4 +1,3 @@
-use mathlib.Core.Path.{_≡_, refl}
 use borrow.Author.Tests.{eq-eqb, ne-eqb}
 use Rattle.file_reader.specs.Reading.{endRecord}
 use Rattle.file_reader.proofs.end_record.Statement.{statement}

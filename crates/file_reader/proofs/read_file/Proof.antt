@@ -5,7 +5,7 @@ use Rattle.schedule.specs.Schedules.{padded}
 use Rattle.file_reader.specs.Reading.{chainField, recordOf}
 use native.Mathlib.Omega.{arith}
 use Prim.Native.Nat.{ℕ, _+_, _-_, _*_, _≤_, _<_}
-use mathlib.Core.Path.{_≡_, refl, sym, ap, _∙_}
+use mathlib.Core.Path.{_≡_, sym, ap, _∙_}
 use lib.ListN.{length}
 use Rattle.file_reader.proofs.Going.{Going, going-start, going-long, task-inside, chain-inside, going-task, going-chain, going-fault, going-after, going-end, going-stop}
 use borrow.Author.Needs.{needs}

@@ -1,5 +1,5 @@
 use Prim.Native.Nat.{ℕ}
-use mathlib.Core.Path.{_≡_, refl, sym, ap, _∙_}
+use mathlib.Core.Path.{_≡_, sym, ap, _∙_}
 use lib.ListN.{take}
 use Rattle.file_reader.specs.Reading.{kindField, endRecord, kindRecord, recordOf}
 use Rattle.file_reader.proofs.Exits.{record-short, record-low, record-past, record-kind, kind-task, kind-chain, kind-end, kind-other}

@@ -1,10 +1,9 @@
 use Prim.Native.Nat.{ℕ}
 use native.Mathlib.Omega.{arith}
-use mathlib.Core.Path.{_≡_, refl, sym, ap, _∙_}
+use mathlib.Core.Path.{_≡_, sym, ap, _∙_}
 use mathlib.Core.Bool.{true, false}
 use lib.ListN.{take}
 use lib.Seq.{length-take-le}
-use Rattle.schedule.specs.declared.NumberedTask.{NumberedTask}
 use Rattle.schedule.specs.Schedules.{taskRule}
 use Rattle.file_reader.specs.declared.Record.the-variants.{Task}
 use Rattle.file_reader.specs.Reading.{lastOf, taskField}

@@ -1,11 +1,10 @@
 use native.Mathlib.Omega.{arith}
-use Prim.Native.Nat.{ℕ, _+_, _-_, _*_, _≤_, _<_}
+use Prim.Native.Nat.{_+_, _-_, _≤_}
 use mathlib.Core.Path.{_≡_, refl, sym, ap, _∙_}
 use mathlib.Core.List.{_∷_}
-use lib.ListN.{length, take, drop, getD}
+use lib.ListN.{take, drop, getD}
 use Rattle.chain.proofs.Front.{front-cons, front-end}
 use borrow.Author.Needs.{needs}
-use Rattle.schedule.specs.Schedules.{positionOf}
 use Rattle.file_writer.specs.Writing.{firstUnknown}
 use Rattle.file_writer.proofs.Faults.{unknown-past, unknown-here, unknown-none}
 use Rattle.file_writer.proofs.first_unknown.Statement.{statement}

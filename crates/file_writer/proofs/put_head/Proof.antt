@@ -1,4 +1,4 @@
-use mathlib.Core.Path.{_≡_, refl}
+use mathlib.Core.Path.{refl}
 use Rattle.file_writer.proofs.Stores.{field-run}
 use borrow.Author.Needs.{needs}
 use Rattle.file_writer.proofs.put_head.Statement.{statement}

@@ -1,6 +1,6 @@
 use native.Mathlib.Omega.{arith}
 use Prim.Native.Nat.{_+_}
-use mathlib.Core.Path.{_≡_, refl}
+use mathlib.Core.Path.{refl}
 use Rattle.file_writer.specs.FileBytes.{taskBytes}
 use Rattle.file_writer.proofs.Stores.{field-run}
 use borrow.Author.Needs.{needs}

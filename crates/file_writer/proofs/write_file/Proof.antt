@@ -1,6 +1,5 @@
-use native.Mathlib.Omega.{arith}
-use Prim.Native.Nat.{ℕ, _+_, _-_, _*_, _≤_, _<_}
-use mathlib.Core.Path.{_≡_, refl, sym, ap, _∙_}
+use Prim.Native.Nat.{_*_}
+use mathlib.Core.Path.{sym, _∙_}
 use lib.ListN.{length, length-map}
 use Rattle.schedule.specs.Schedules.{tasksIn, placesIn}
 use Rattle.file_writer.specs.Accepted.{accepted}

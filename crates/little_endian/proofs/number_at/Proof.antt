@@ -1,6 +1,6 @@
 use native.Mathlib.Omega.{arith}
-use Prim.Native.Nat.{ℕ, _+_, _-_, _≤_, _<_}
-use mathlib.Core.Path.{_≡_, refl, sym, ap, _∙_}
+use Prim.Native.Nat.{_+_, _-_, _≤_, _<_}
+use mathlib.Core.Path.{_≡_}
 use Rattle.little_endian.specs.LittleEndian.{numberAt, power}
 use Rattle.little_endian.proofs.Turns.{number-none, power-none, number-turn, power-turn, below-four, number-whole}
 use borrow.Author.Needs.{needs}

@@ -1,14 +1,12 @@
 use native.Mathlib.Omega.{arith}
-use Prim.Native.Nat.{ℕ, _+_, _-_, _≤_}
-use mathlib.Core.Path.{_≡_, refl, sym, ap, _∙_}
-use Rattle.task.specs.Jobs.{writeOf}
+use Prim.Native.Nat.{_+_, _-_, _≤_}
+use mathlib.Core.Path.{_≡_, refl, sym}
 use Rattle.task.specs.LinkLaws.{read-mono}
 use Rattle.chain.specs.Chains.{at}
 use Rattle.chain.specs.Flat.{tasksIn}
 use Rattle.partition.specs.Partitions.{IsPartition}
 use Rattle.partition.proofs.Bounds.{start-end, end-pos, own}
 use Rattle.maker.proofs.Turn.{Going, going-start, going-turn, going-end, going-first, going-second, added-few}
-use borrow.Author.Needs.{needs}
 use Rattle.maker.proofs.fill.Statement.{statement}
 use Rattle.maker.proofs.fill.Tie as tie
 

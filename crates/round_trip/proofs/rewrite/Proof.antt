@@ -1,5 +1,5 @@
 use native.Mathlib.Omega.{arith}
-use mathlib.Core.Path.{_≡_, sym, ap, _∙_}
+use mathlib.Core.Path.{ap}
 use Rattle.file_reader.specs.declared.FileRead.{FileRead}
 use Rattle.round_trip.proofs.Trips.{rewrite-refused, rewrite-written}
 use borrow.Author.Needs.{needs}

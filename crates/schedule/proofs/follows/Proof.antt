@@ -1,8 +1,6 @@
-use mathlib.Core.Path.{_≡_, sym, _∙_}
-use mathlib.Core.Bool.{_&&_}
+use mathlib.Core.Path.{sym, _∙_}
 use borrow.Author.Tests.{le-leb, lt-leb, lt-ltb, le-ltb}
 use Rattle.schedule.specs.Schedules.{taskRule}
-use borrow.Author.Needs.{needs}
 use Rattle.schedule.proofs.follows.Statement.{statement}
 use Rattle.schedule.proofs.follows.Tie as tie
 

@@ -1,13 +1,12 @@
 use native.Mathlib.Omega.{arith}
-use Prim.Native.Nat.{ℕ, _+_, _-_, _≤_, _<_}
+use Prim.Native.Nat.{ℕ, _-_, _≤_}
 use mathlib.Core.Path.{_≡_, refl, sym, ap, _∙_}
 use mathlib.Core.List.{List, map}
 use Rattle.schedule.specs.declared.NumberedTask.{NumberedTask}
 use lib.ListN.{length, take, set, getD, length-map, length-set}
 use lib.Seq.{take-all}
 use Rattle.schedule.specs.Schedules.{numberOf, padded, zeroNumbered}
-use Rattle.schedule.specs.Padding.{padded-none, padded-whole, length-padded, store-more}
-use borrow.Author.Needs.{needs}
+use Rattle.schedule.specs.Padding.{padded-none, padded-whole, store-more}
 use Rattle.schedule.proofs.numbers_of.Statement.{statement}
 use Rattle.schedule.proofs.numbers_of.Tie as tie
 
