@@ -108,7 +108,7 @@ fn hyper_verdict(tasks: &[u64]) -> Verdict
     Verdict::Accepted(h)
 }
 
-// The checks of a flat list of tasks, one for each place, in document 01's order: 8, 5, 7.
+// The checks of a flat list of tasks, one for each place.
 pub fn check_on(tasks: &[u64]) -> Verdict
     ensures { λ r. ⌜ r ≡ verdictIn (tasksIn (now (tasks .entry))) ⌝ }
 {
@@ -135,7 +135,7 @@ pub fn check_on(tasks: &[u64]) -> Verdict
     hyper_verdict(tasks)
 }
 
-// The checks of a chain to be analysed.
+// The checks of a chain to be analysed, in document 01's order: 8, 5, 7.
 pub fn check(c: Chain) -> Verdict
     ensures { λ r. ⌜ r ≡ verdictOf c ⌝ }
 {

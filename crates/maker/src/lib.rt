@@ -144,7 +144,7 @@ fn judge(v: Verdict, places: usize, p: usize, a: usize, b: usize) -> Verdict
     }
 }
 
-// Making on a flat list of tasks, one for each place, which is lent and not copied: the table cut at place p, p counted from 1; refusals 8, 5, 7, 9, 10, 11.
+// Making on a flat list of tasks, one for each place, which is lent and not copied.
 pub fn make_table_on(tasks: &[u64], p: usize, starts: &mut [u64], latencies: &mut [u64]) -> Made
     ensures { λ r. ⌜ MakesFor (tasksIn (now (tasks .entry))) p (now (starts .entry)) (now (latencies .entry)) (now (starts .exit)) (now (latencies .exit)) r ⌝ }
 {
@@ -183,7 +183,7 @@ pub fn make_table_on(tasks: &[u64], p: usize, starts: &mut [u64], latencies: &mu
     }
 }
 
-// Document 01's making.
+// Document 01's making: the table of chain c cut at place p, p counted from 1; refusals 8, 5, 7, 9, 10, 11.
 pub fn make_table(c: Chain, p: usize, starts: &mut [u64], latencies: &mut [u64]) -> Made
     ensures { λ r. ⌜ Makes c p (now (starts .entry)) (now (latencies .entry)) (now (starts .exit)) (now (latencies .exit)) r ⌝ }
 {

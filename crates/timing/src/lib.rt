@@ -71,7 +71,7 @@ fn warm_tick(tasks: &[u64]) -> Tick
     first.read(j)
 }
 
-// Warm-up of a flat list of tasks: W1 to Wn, x0 and H; refusals 8, 5, 7.
+// Warm-up of a flat list of tasks.
 pub fn warm_up_on(tasks: &[u64]) -> WarmUp
     ensures { λ r. ⌜ r ≡ warmUpIn (tasksIn (now (tasks .entry))) ⌝ }
 {
@@ -103,7 +103,7 @@ pub fn warm_up_on(tasks: &[u64]) -> WarmUp
     }
 }
 
-// Document 01's warm-up.
+// Document 01's warm-up: W1 to Wn, x0 and H; refusals 8, 5, 7.
 pub fn warm_up(c: Chain) -> WarmUp
     ensures { λ r. ⌜ r ≡ warmUpOf c ⌝ }
 {
@@ -141,7 +141,7 @@ fn delay_ticks(tasks: &[u64], t: Tick) -> u64
     end.0 - t.0
 }
 
-// Walking of a flat list of tasks: the delay of a press at tick t; refusals 8, 5, 7, 12, 13.
+// Walking of a flat list of tasks.
 pub fn delay_on(tasks: &[u64], t: Tick) -> Span
     ensures { λ r. ⌜ r ≡ delayIn (tasksIn (now (tasks .entry))) (t .0) ⌝ }
 {
@@ -159,7 +159,7 @@ pub fn delay_on(tasks: &[u64], t: Tick) -> Span
     Span::Ticks(delay_ticks(tasks, t))
 }
 
-// Document 01's walking.
+// Document 01's walking: the delay of a press at tick t; refusals 8, 5, 7, 12, 13.
 pub fn delay(c: Chain, t: Tick) -> Span
     ensures { λ r. ⌜ r ≡ delayOf c (t .0) ⌝ }
 {
@@ -194,7 +194,7 @@ fn age_ticks(tasks: &[u64], z: Tick) -> u64
     z.0 - start.0
 }
 
-// Ageing of a flat list of tasks: the age at tick z; refusals 8, 5, 7, 12, 13.
+// Ageing of a flat list of tasks.
 pub fn age_on(tasks: &[u64], z: Tick) -> Span
     ensures { λ r. ⌜ r ≡ ageIn (tasksIn (now (tasks .entry))) (z .0) ⌝ }
 {
@@ -212,7 +212,7 @@ pub fn age_on(tasks: &[u64], z: Tick) -> Span
     Span::Ticks(age_ticks(tasks, z))
 }
 
-// Document 01's ageing.
+// Document 01's ageing: the age at tick z; refusals 8, 5, 7, 12, 13.
 pub fn age(c: Chain, z: Tick) -> Span
     ensures { λ r. ⌜ r ≡ ageOf c (z .0) ⌝ }
 {

@@ -146,7 +146,7 @@ fn judge(v: Verdict, k: u64) -> Verdict
     }
 }
 
-// Windows of jobs of a flat list of tasks, one for each place: the largest number of misses of b in k successive jobs; refusals 8, 5, 7, 15.
+// Windows of jobs of a flat list of tasks, one for each place.
 pub fn most_misses_on(tasks: &[u64], b: u64, k: u64) -> Windows
     ensures { λ r. ⌜ AnswersFor (tasksIn (now (tasks .entry))) b k r ⌝ }
 {
@@ -166,7 +166,7 @@ pub fn most_misses_on(tasks: &[u64], b: u64, k: u64) -> Windows
     }
 }
 
-// Document 01's windows of jobs.
+// Document 01's windows of jobs: the largest number of misses of b in k successive jobs; refusals 8, 5, 7, 15.
 pub fn most_misses(c: Chain, b: u64, k: u64) -> Windows
     ensures { λ r. ⌜ Answers c b k r ⌝ }
 {
