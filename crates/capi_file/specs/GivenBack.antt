@@ -1,20 +1,21 @@
 -- The lists that C gets of a schedule give the schedule back. So the two round trips of a schedule file hold through the calls for C.
-use Prim.Native.Nat.{ℕ, zero, suc, _+_, _*_, _≤_, _<_}
+use Prim.Native.Nat.{ℕ, zero, suc, _+_, _*_, _/_, _%_, _≤_, _<_}
 use native.Mathlib.Omega.{arith}
 use mathlib.Core.Path.{_≡_, refl, sym, ap, _∙_}
-use mathlib.Core.Bool.{Bool, true, false, cond}
-use mathlib.Core.List.{List, [], _∷_, _++_, map}
-use lib.Dec.{leb}
+use mathlib.Core.Bool.{Bool, true, false, cond, _&&_}
+use mathlib.Core.List.{List, [], _∷_, _++_, map, append-assoc}
+use lib.Dec.{leb, eqb}
 use lib.ListN.{length, getD, take, drop}
-use lib.Seq.{take-at}
-use borrow.Author.Tests.{le-leb}
+use lib.Seq.{take-at, take-suc, ext-getD, getD-take, length-take-le}
+use borrow.Author.Tests.{le-leb, leb-true}
 use Rattle.refusal.specs.Refusals.{refusal, none}
 use Rattle.chain.specs.Flat.{flatOf}
-use Rattle.chain.specs.Entries.{entries-length, entries-are}
+use Rattle.chain.specs.Entries.{entries-length, entries-at, entries-are}
+use Rattle.chain.proofs.Filling.{flat-more}
 use Rattle.schedule.specs.declared.NumberedTask.{NumberedTask}
 use Rattle.schedule.specs.declared.Schedule.{Schedule}
 use Rattle.schedule.specs.Schedules.{numberOf, tasksIn, placesIn, zeroNumbered}
-use Rattle.schedule.specs.Padding.{length-padded}
+use Rattle.schedule.specs.Padding.{length-padded, take-padded}
 use Rattle.little_endian.specs.LittleEndian.{Bytes}
 use Rattle.file_reader.specs.declared.FileRead.{FileRead}
 use Rattle.file_reader.specs.Reading.{readFile}
@@ -25,7 +26,7 @@ use Rattle.file_writer.specs.Writing.{firstFault, firstUnknown, afterFault, cou
 use Rattle.file_writer.specs.Accepted.{Accepted, accepted}
 use Rattle.round_trip.specs.RoundTrips.{Arrays, cleared, read-arrays, read-counts, write-after-read, read-after-write, cleared-parts}
 use Rattle.capi_file.specs.Calls.{writtenCode, writtenLength, GivesSchedule, GivesFile}
-use Rattle.capi_file.specs.FlatSchedule.{numberedAt, placeAt, countFrom, placesFrom, scheduleFrom, flatTasks}
+use Rattle.capi_file.specs.FlatSchedule.{numberedAt, placeAt, tasksFrom, chainFrom, countFrom, placesFrom, scheduleFrom, numberedFields, flatTasks}
 
 flat-long : (ts : List NumberedTask) → length (flatTasks ts) ≡ 4 * length ts
 unfolding flatOf
@@ -102,7 +103,75 @@ written-zero s lent = go (countsRight s) (firstFault 1 0 (tasksIn s)) (firstUnkn
     go true (suc p) q y e = absurd (omega arith)
     go false p q y e = absurd (omega arith)
 
--- Demand 2, for C: reading what was written returns the schedule, with zeros past its counts.
+-- ---- the numbers of the counted tasks and places
+
+-- four numbers more of a list
+four-more : (l : List ℕ) (k : ℕ) → k + 4 ≤ length l → take (k + 4) l ≡ take k l ++ (getD l k 0 ∷ getD l (k + 1) 0 ∷ getD l (k + 2) 0 ∷ getD l (k + 3) 0 ∷ [])
+four-more l k h =
+    let a : k + 1 ≡ suc k = omega arith in
+    let b : k + 2 ≡ suc (suc k) = omega arith in
+    let c : k + 3 ≡ suc (suc (suc k)) = omega arith in
+    let e : k + 4 ≡ suc (suc (suc (suc k))) = omega arith in
+    rw (a, b, c, e)
+    (take-suc l (suc (suc (suc k))) 0 (omega arith) ∙ ap (λ (r : List ℕ). r ++ (getD l (suc (suc (suc k))) 0 ∷ [])) (take-suc l (suc (suc k)) 0 (omega arith)
+    ∙ ap (λ (r : List ℕ). r ++ (getD l (suc (suc k)) 0 ∷ [])) (take-suc l (suc k) 0 (omega arith) ∙ ap (λ (r : List ℕ). r ++ (getD l (suc k) 0 ∷ [])) (take-suc l k 0 (omega arith))))
+    ∙ append-assoc ((take k l ++ (getD l k 0 ∷ [])) ++ (getD l (suc k) 0 ∷ [])) (getD l (suc (suc k)) 0 ∷ []) (getD l (suc (suc (suc k))) 0 ∷ [])
+    ∙ append-assoc (take k l ++ (getD l k 0 ∷ [])) (getD l (suc k) 0 ∷ []) (getD l (suc (suc k)) 0 ∷ getD l (suc (suc (suc k))) 0 ∷ [])
+    ∙ append-assoc (take k l) (getD l k 0 ∷ []) (getD l (suc k) 0 ∷ getD l (suc (suc k)) 0 ∷ getD l (suc (suc (suc k))) 0 ∷ []))
+
+-- of a list that holds them, the flat list of the first n tasks is its own front
+front-tasks : (ts : List ℕ) (n : ℕ) → n ≤ 32 → 4 * n ≤ length ts → flatTasks (take n (tasksFrom ts)) ≡ take (4 * n) ts
+unfolding flatOf numberedAt
+front-tasks ts zero h g = refl
+front-tasks ts (suc n) h g =
+    let m : 4 * suc n ≡ 4 * n + 4 = omega arith in
+    let at = entries-at (numberedAt ts) zeroNumbered 32 n (omega arith) in
+    flat-more numberedFields 4 (λ x. refl) zeroNumbered (tasksFrom ts) n (omega (arith, entries-length (numberedAt ts) 0 32))
+    ∙ ap (λ (x : NumberedTask). flatTasks (take n (tasksFrom ts)) ++ numberedFields x) at
+    ∙ rw (le-leb (4 * n + 4) (length ts) (omega arith), m) (ap (λ (r : List ℕ). r ++ (getD ts (4 * n) 0 ∷ getD ts (4 * n + 1) 0 ∷ getD ts (4 * n + 2) 0 ∷ getD ts (4 * n + 3) 0 ∷ [])) (front-tasks ts n (omega arith) (omega arith)) ∙ sym (four-more ts (4 * n) (omega arith)))
+
+front-places : (ch : List ℕ) (p : ℕ) → p ≤ 12 → p ≤ length ch → take p (chainFrom ch) ≡ take p ch
+front-places ch p h g =
+    let a : length (take p (chainFrom ch)) ≡ p = length-take-le p (chainFrom ch) (omega (arith, entries-length (placeAt ch) 0 12)) in
+    let b : length (take p ch) ≡ p = length-take-le p ch g in
+    ext-getD 0 (take p (chainFrom ch)) (take p ch) (a ∙ sym b)
+    (λ i k. getD-take p (chainFrom ch) i 0 (omega arith) ∙ entries-at (placeAt ch) 0 12 i (omega arith) ∙ sym (getD-take p ch i 0 (omega arith)))
+
+take-flat : (n : ℕ) (l : List NumberedTask) → take (4 * n) (flatTasks l) ≡ flatTasks (take n l)
+unfolding flatOf
+take-flat zero l = refl
+take-flat (suc n) [] = let e : 4 * suc n ≡ suc (suc (suc (suc (4 * n)))) = omega arith in rw e
+take-flat (suc n) (t ∷ l) =
+    let e : 4 * suc n ≡ suc (suc (suc (suc (4 * n)))) = omega arith in
+    rw e (ap (λ (r : List ℕ). t .number ∷ t .task .period ∷ t .task .duration ∷ t .task .phase ∷ r) (take-flat n l))
+
+-- a count that is not 0 is the one given, and the list holds it
+count-is : (long n : ℕ) → 1 ≤ countFrom long n → (countFrom long n ≡ n) × (4 * n ≤ long)
+unfolding countFrom
+count-is long n = go (eqb (long % 4) 0) (leb n (long / 4)) refl
+  where
+    go : (x y : Bool) → leb n (long / 4) ≡ y → 1 ≤ cond (x && y) n 0 → (cond (x && y) n 0 ≡ n) × (4 * n ≤ long)
+    go true true e h = (refl, omega (arith, leb-true n (long / 4) e))
+    go true false e h = absurd (omega arith)
+    go false y e h = absurd (omega arith)
+
+places-are : (long p : ℕ) → 1 ≤ placesFrom long p → (placesFrom long p ≡ p) × (p ≤ long)
+unfolding placesFrom
+places-are long p = go (leb p long) refl
+  where
+    go : (y : Bool) → leb p long ≡ y → 1 ≤ cond y p 0 → (cond y p 0 ≡ p) × (p ≤ long)
+    go true e h = (refl, leb-true p long e)
+    go false e h = absurd (omega arith)
+
+-- What C gets of a schedule that it gave: no refusal, the same counts, the same numbers of the counted tasks and places, and zeros past them.
+pub record ComesBack (ts : List ℕ) (n : ℕ) (ch : List ℕ) (p code : ℕ) (ts′ ch′ counts : List ℕ) : Type 0 where
+  pub accepted : code ≡ 0
+  pub counted : counts ≡ n ∷ p ∷ []
+  pub tasks : take (4 * n) ts′ ≡ take (4 * n) ts
+  pub places : take p ch′ ≡ take p ch
+  pub schedule : scheduleFrom ts′ n ch′ p ≡ cleared (scheduleFrom ts n ch p)
+
+-- Demand 2, for C: reading what was written returns the schedule.
 module _ (ts : List ℕ) (n : ℕ) (ch : List ℕ) (p : ℕ) (old : List ℕ) (code : ℕ) (new : List ℕ) (long : ℕ) (w : GivesFile (scheduleFrom ts n ch p) old code new long) (fine : code ≡ 0) where
   abbrev s : Schedule
   s = scheduleFrom ts n ch p
@@ -133,8 +202,35 @@ module _ (ts : List ℕ) (n : ℕ) (ch : List ℕ) (p : ℕ) (old : List ℕ) (c
     chain = length-padded 0 12 (placesIn s) (omega (arith, parts .1, facts .few-places));
   }
 
-  pub reread-for-c : (code′ : ℕ) (ts′ ch′ counts : List ℕ) → GivesSchedule (readFile (take long new)) code′ ts′ ch′ counts
-      → (code′ ≡ 0) × (scheduleFrom ts′ (getD counts 0 0) ch′ (getD counts 1 0) ≡ cleared (scheduleFrom ts n ch p))
-  reread-for-c code′ ts′ ch′ counts g =
+  counts : (s .count ≡ n) × (4 * n ≤ length ts)
+  counts = count-is (length ts) n (facts .some)
+
+  places : (s .places ≡ p) × (p ≤ length ch)
+  places = places-are (length ch) p (facts .placed)
+
+  tasks-front : take (4 * n) (flatTasks (cleared s .tasks)) ≡ take (4 * n) ts
+  tasks-front =
+      let e : length (tasksIn s) ≡ n = parts .0 ∙ counts .0 in
+      take-flat n (cleared s .tasks) ∙ ap (λ (x : ℕ). flatTasks (take x (cleared s .tasks))) (sym e) ∙ ap flatTasks (take-padded zeroNumbered 32 (tasksIn s) (omega (arith, facts .few, counts .0)))
+      ∙ ap (λ (x : ℕ). flatTasks (take x (tasksFrom ts))) (counts .0) ∙ front-tasks ts n (omega (arith, facts .few, counts .0)) (counts .1)
+
+  places-front : take p (cleared s .chain) ≡ take p ch
+  places-front =
+      let e : length (placesIn s) ≡ p = parts .1 ∙ places .0 in
+      ap (λ (x : ℕ). take x (cleared s .chain)) (sym e) ∙ take-padded 0 12 (placesIn s) (omega (arith, facts .few-places, places .0))
+      ∙ ap (λ (x : ℕ). take x (chainFrom ch)) (places .0) ∙ front-places ch p (omega (arith, facts .few-places, places .0)) (places .1)
+
+  pub reread-for-c : (code′ : ℕ) (ts′ ch′ counts′ : List ℕ) → GivesSchedule (readFile (take long new)) code′ ts′ ch′ counts′ → ComesBack ts n ch p code′ ts′ ch′ counts′
+  reread-for-c code′ ts′ ch′ counts′ g =
       let v = rw is-read at g in
-      (v .answers, given-schedule (record { refusal = none; schedule = cleared s }) code′ ts′ ch′ counts v cleared-arrays (omega (arith, parts .0, facts .few)) (omega (arith, parts .1, facts .few-places)))
+      let m : cleared s .count ≡ n = parts .0 ∙ counts .0 in
+      let q : cleared s .places ≡ p = parts .1 ∙ places .0 in
+      let k : counts′ ≡ n ∷ p ∷ [] = v .gives-counts ∙ ap (λ (x : ℕ). x ∷ cleared s .places ∷ []) m ∙ ap (λ (x : ℕ). n ∷ x ∷ []) q in
+      let b = given-schedule (record { refusal = none; schedule = cleared s }) code′ ts′ ch′ counts′ v cleared-arrays (omega (arith, parts .0, facts .few)) (omega (arith, parts .1, facts .few-places)) in
+      record {
+        accepted = v .answers;
+        counted = k;
+        tasks = ap (take (4 * n)) (v .gives-tasks) ∙ tasks-front;
+        places = ap (take p) (v .gives-chain) ∙ places-front;
+        schedule = rw k at b;
+      }

@@ -6,7 +6,7 @@ use native.Mathlib.Decide.{decLt}
 use mathlib.Core.Path.{_≡_, refl, sym, ap, _∙_}
 use mathlib.Core.List.{List, []}
 use lib.ListN.{length, take}
-use lib.Seq.{length-take-le}
+use lib.Seq.{ext-getD, getD-take, length-take-le}
 use borrow.Author.Tests.{le-leb, lt-leb, le-ltb, lt-ltb}
 use Rattle.refusal.specs.declared.Refusal.{Refusal}
 use Rattle.refusal.specs.Refusals.{refusal}
@@ -14,7 +14,8 @@ use Rattle.task.specs.declared.Task.{Task}
 use Rattle.chain.specs.declared.Chain.{Chain}
 use Rattle.chain.specs.declared.Verdict.{Verdict}
 use Rattle.chain.specs.declared.Verdict.the-variants.{Accepted, Refused}
-use Rattle.chain.specs.Chains.{tasksOf}
+use Rattle.chain.specs.Chains.{tasksOf, at, zeroTask}
+use Rattle.chain.specs.Entries.{entries, entries-length, entries-at}
 use Rattle.chain.specs.Checks.{verdictFor, verdictOf, verdictIn}
 use Rattle.chain.specs.Flat.{flatChain, tasksIn, flatLength, flat-front}
 
@@ -42,6 +43,20 @@ stands-wrong l c g h =
   where
     no : (k : ℕ) → Refused (refusal 8 0) ≡ Accepted k → ⊥
     no k e = let z : _≡_ {A = ℕ} 0 1 = cc in omega arith
+
+-- every list stands for a chain: that of its tasks, the first twelve of them, and as many places
+abbrev pub chainWith : List Task → Chain
+chainWith l = record { tasks = entries (at l) 0 12; places = length l }
+
+pub stands-some : (l : List Task) → StandsFor l (chainWith l)
+stands-some l = elim (decLt 12 (length l)) [
+  | yes u ↦ stands-wrong l (chainWith l) (λ g. u) (λ g. u)
+  | no u ↦
+      let n : length (take (length l) (entries (at l) 0 12)) ≡ length l = length-take-le (length l) (entries (at l) 0 12) (omega (arith, entries-length (at l) 0 12)) in
+      stands-same l (chainWith l)
+      (ext-getD zeroTask l (take (length l) (entries (at l) 0 12)) (sym n) (λ i h. sym (getD-take (length l) (entries (at l) 0 12) i zeroTask h ∙ entries-at (at l) zeroTask 12 i (omega arith))))
+      refl
+]
 
 -- ---- the front of a chain's flat list, as the code shares it
 
