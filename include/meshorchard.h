@@ -261,8 +261,8 @@ uint64_t mo_chain_of_schedule(const uint64_t *tasks, size_t tasks_length, size_t
                               const uint64_t *chain, size_t chain_length, size_t places, uint64_t flat[36]);
 
 /*
- * The report of a schedule file, as the program chainreport prints it: the chain's table, made with 1,024 slots and cut at the longest
- * period, and its figures, as lines of text that end in LF,
+ * The report of a schedule file: the chain's table, made with 1,024 slots and cut at the longest period, and its figures, as lines of text
+ * that end in LF,
  *
  *     warm 0
  *     hyper 12
@@ -276,6 +276,8 @@ uint64_t mo_chain_of_schedule(const uint64_t *tasks, size_t tasks_length, size_t
  *
  * or the one line "refused N P", N being the refusal's number and P its place: what mo_read_file refuses the bytes with, or else
  * MO_HYPERPERIOD_TOO_LONG, or MO_LISTS_TOO_SHORT where there are more than 1,024 anchors, both at 0.
+ *
+ * All the bytes lent are judged as one file. The program chainreport prints this report of the first 4,096 bytes of its input.
  *
  * The answer is no code but the length of the text, at most MO_LONGEST_REPORT. The first bytes of out become the text, as many of them as
  * there are; the others keep their content. The bytes of the file are not written. The call needs about 20,000 bytes of stack.

@@ -2,8 +2,8 @@
 
     python3 tests/report.py [--count FACTOR] [--seed SEED]
 
-Runs the program once for each file, and the call with bytes enough and with too few. Each group prints its number of files; the last
-line is 'N passed, M failed', in groups. A disagreement is printed with its file.
+Runs the program once for each file, and the call with more bytes than the text has, with just as many and with fewer. Each group prints
+its number of files; the last line is 'N passed, M failed', in groups. A disagreement is printed with its file.
 """
 import argparse
 import glob
@@ -47,11 +47,19 @@ def printed(data):
 
 
 def called(calls, r, data, text):
-    """Whether the call leaves the text in lent bytes of some length, as much of it as fits, and answers its length.
+    """Whether the call leaves this text in lent bytes, as much of it as fits, and answers its length."""
+    for size in (len(text) + 9, len(text), r.randrange(len(text))):
+        old = r.randbytes(size)
+        if calls.report(data, old) != (len(text), (text + old[len(text):])[:size]):
+            return False
+    return True
 
-    The program reads no more than 4,096 bytes; the call is lent those."""
-    old = bytes(r.randrange(256) for _ in range(r.choice([len(text) + 9, len(text), r.randint(0, len(text))])))
-    return calls.report(data[:4096], old) == (len(text), (text + old[len(text):])[:len(old)])
+
+def rightly_called(calls, r, data, text):
+    """The same for the 4,096 bytes that the program judges, and for all of a longer input, which no schedule file is."""
+    if not called(calls, r, data[:4096], text):
+        return False
+    return len(data) <= 4096 or called(calls, r, data, b"refused %d %d\n" % reference.read_file(data)[1:])
 
 
 # ---- files
@@ -221,7 +229,7 @@ def main():
                 mine, other = printed(data), reference.report(data)
                 if mine != other:
                     wrong.append((data, mine, other))
-                elif not called(calls, lengths, data, other):
+                elif not rightly_called(calls, lengths, data, other):
                     wrong.append((data, b"(by the call)", other))
         except AssertionError as fault:
             broken = f", not as it should be {fault}"

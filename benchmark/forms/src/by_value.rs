@@ -1,5 +1,5 @@
-//! The chain as a struct of twelve tasks and a count, passed by value from function to function, which are those of the crates.
-//! rustc would leave the copies out, since no function changes its chain. `received` makes it copy, at the calls where the archives copy.
+//! The chain as a struct of twelve tasks and a count, passed by value from function to function.
+//! rustc would leave the copies out, since no function changes its chain. `received` makes it copy, at the calls where the crates copied while they had this form.
 use plain::maker::{Figures, Made};
 use plain::task::Task;
 use plain::{Refusal, HYPERPERIOD_LIMIT, UPPER_TICK};

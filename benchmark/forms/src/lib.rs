@@ -1,4 +1,4 @@
 //! Making, walking and windows once more in plain Rust, with the chain passed in two other ways, to see what passing a chain costs.
-//! `by_value` copies it at each call, as the crates do; `flat` lends the list T, D, F, T, D, F, .. as C gives it.
+//! `by_value` copies it at each call; `flat` lends the list T, D, F, T, D, F, .. as C gives it, as the crates do.
 pub mod by_value;
 pub mod flat;

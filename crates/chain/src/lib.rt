@@ -1,5 +1,5 @@
 // A chain of tasks: its checks, its hyperperiod, and the ways forward and backward along its places.
-// A chain is a value; what walks it takes its tasks as a flat list of numbers, which is lent and not copied.
+// A chain is a value; what walks it takes its tasks as a flat list of numbers, which is lent and not copied. One or two numbers left at the end of such a list are no task.
 // `check` and `check_on` are entry points: they take any chain and any list. The ways are for the crates above, on lists that passed 8 and 5; they count places from 0.
 use refusal::Refusal;
 use task::Job;

@@ -52,18 +52,24 @@ spanAfter (verdict.Accepted h) from t span =
 spanAfter (verdict.Refused r) from t span = Refused r
 
 -- Walking: the delay at tick t.
+abbrev delayAfter : List Task → Verdict → ℕ → Span
+delayAfter l v t = spanAfter v (warmTick l) t (delayAt l t)
+
 abbrev pub delayOf : Chain → ℕ → Span
-delayOf c t = spanAfter (verdictOf c) (warmTick (tasksOf c)) t (delayAt (tasksOf c) t)
+delayOf c t = delayAfter (tasksOf c) (verdictOf c) t
 
 abbrev pub delayIn : List Task → ℕ → Span
-delayIn l t = spanAfter (verdictIn l) (warmTick l) t (delayAt l t)
+delayIn l t = delayAfter l (verdictIn l) t
 
 -- Ageing: the age at tick z.
+abbrev ageAfter : List Task → Verdict → ℕ → Span
+ageAfter l v z = spanAfter v (firstAged l) z (ageAt l z)
+
 abbrev pub ageOf : Chain → ℕ → Span
-ageOf c z = spanAfter (verdictOf c) (firstAged (tasksOf c)) z (ageAt (tasksOf c) z)
+ageOf c z = ageAfter (tasksOf c) (verdictOf c) z
 
 abbrev pub ageIn : List Task → ℕ → Span
-ageIn l z = spanAfter (verdictIn l) (firstAged l) z (ageAt l z)
+ageIn l z = ageAfter l (verdictIn l) z
 
 -- The refusal that a tick gets, as `spanAfter` has it, as a number: 0 for none.
 abbrev pub tickRefusal : ℕ → ℕ → ℕ
