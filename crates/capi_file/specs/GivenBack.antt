@@ -1,4 +1,5 @@
--- The lists that C gets of a schedule give the schedule back. So the two round trips of a schedule file hold through the calls for C.
+-- The lists that C gets of a schedule give the schedule back (`schedule-given-back`). So the two round trips of a schedule file hold through the calls for C:
+-- writing what was read returns the file (`rewritten-for-c`), and reading what was written returns the numbers that were given (`reread-for-c`).
 use Prim.Native.Nat.{ℕ, zero, suc, _+_, _*_, _/_, _%_, _≤_, _<_}
 use native.Mathlib.Omega.{arith}
 use mathlib.Core.Path.{_≡_, refl, sym, ap, _∙_}
@@ -21,7 +22,7 @@ use Rattle.file_reader.specs.declared.FileRead.{FileRead}
 use Rattle.file_reader.specs.Reading.{readFile}
 use Rattle.file_writer.specs.declared.Written.{Written}
 use Rattle.file_writer.specs.declared.Written.the-variants as written
-use Rattle.file_writer.specs.FileBytes.{fileBytes}
+use Rattle.file_writer.specs.FileBytes.{fileOf, fileBytes}
 use Rattle.file_writer.specs.Writing.{firstFault, firstUnknown, afterFault, countsRight, lengthVerdict, leftBytes, writtenOf}
 use Rattle.file_writer.specs.Accepted.{Accepted, accepted}
 use Rattle.round_trip.specs.RoundTrips.{Arrays, cleared, read-arrays, read-counts, write-after-read, read-after-write, cleared-parts}
@@ -69,24 +70,12 @@ schedule-given-back s a few few-places =
     let p = ap (λ (x : ℕ). placesFrom x (s .places)) (a .chain) ∙ places-back (s .places) few-places in
     rw (t, c, k, p)
 
--- ---- the round trips through C
+-- ---- what C gives back
 
 -- the schedule of what C got of a schedule
 given-schedule : (f : FileRead) (code : ℕ) (ts ch counts : List ℕ) → GivesSchedule f code ts ch counts → Arrays (f .schedule) → f .schedule .count ≤ 32 → f .schedule .places ≤ 12
     → scheduleFrom ts (getD counts 0 0) ch (getD counts 1 0) ≡ f .schedule
 given-schedule f code ts ch counts g a few few-places = rw (g .gives-tasks, g .gives-chain, g .gives-counts) (schedule-given-back (f .schedule) a few few-places)
-
--- Demand 2, for C: writing what was read returns the file byte for byte, into lent bytes that are long enough.
-pub rewritten-for-c : (b : List ℕ) → Bytes b → (code : ℕ) (ts ch counts : List ℕ) → GivesSchedule (readFile b) code ts ch counts → code ≡ 0
-    → (old : List ℕ) → length b ≤ length old → (code′ : ℕ) (new : List ℕ) (long : ℕ) → GivesFile (scheduleFrom ts (getD counts 0 0) ch (getD counts 1 0)) old code′ new long
-    → (code′ ≡ 0) × (long ≡ length b) × (new ≡ b ++ drop (length b) old)
-rewritten-for-c b is code ts ch counts g z old h code′ new long w =
-    let fine : readFile b .refusal .number ≡ 0 = omega (arith, g .answers) in
-    let k = read-counts b is fine in
-    let e = given-schedule (readFile b) code ts ch counts g (read-arrays b is fine) (k .0) (k .1) in
-    let v : GivesFile (readFile b .schedule) old code′ new long = rw e at w in
-    let r = write-after-read b is fine old h in
-    (v .answers ∙ ap writtenCode (r .0), v .gives-length ∙ ap writtenLength (r .0), v .leaves ∙ r .1)
 
 -- a refusal's code is not 0
 written-zero : (s : Schedule) (lent : ℕ) → writtenCode (writtenOf s lent) ≡ 0 → writtenOf s lent ≡ written.Bytes (writtenLength (writtenOf s lent))
@@ -137,6 +126,112 @@ front-places ch p h g =
     ext-getD 0 (take p (chainFrom ch)) (take p ch) (a ∙ sym b)
     (λ i k. getD-take p (chainFrom ch) i 0 (omega arith) ∙ entries-at (placeAt ch) 0 12 i (omega arith) ∙ sym (getD-take p ch i 0 (omega arith)))
 
+-- two lists that hold the same numbers of the first n tasks hold the same tasks
+module _ (ts us : List ℕ) (k : ℕ) (a : k ≤ length ts) (b : k ≤ length us) (same : take k us ≡ take k ts) where
+  same-at : (i : ℕ) → i < k → getD us i 0 ≡ getD ts i 0
+  same-at i h = sym (getD-take k us i 0 h) ∙ ap (λ (l : List ℕ). getD l i 0) same ∙ getD-take k ts i 0 h
+
+  numbered-same : (i : ℕ) → 4 * i + 4 ≤ k → numberedAt us i ≡ numberedAt ts i
+  unfolding numberedAt
+  numbered-same i h =
+      rw (le-leb (4 * i + 4) (length us) (omega arith), le-leb (4 * i + 4) (length ts) (omega arith), same-at (4 * i) (omega arith), same-at (4 * i + 1) (omega arith), same-at (4 * i + 2) (omega arith), same-at (4 * i + 3) (omega arith))
+
+same-tasks : (ts us : List ℕ) (n : ℕ) → n ≤ 32 → 4 * n ≤ length ts → 4 * n ≤ length us → take (4 * n) us ≡ take (4 * n) ts → take n (tasksFrom us) ≡ take n (tasksFrom ts)
+same-tasks ts us n h a b same =
+    let x : length (take n (tasksFrom us)) ≡ n = length-take-le n (tasksFrom us) (omega (arith, entries-length (numberedAt us) 0 32)) in
+    let y : length (take n (tasksFrom ts)) ≡ n = length-take-le n (tasksFrom ts) (omega (arith, entries-length (numberedAt ts) 0 32)) in
+    ext-getD zeroNumbered (take n (tasksFrom us)) (take n (tasksFrom ts)) (x ∙ sym y)
+    (λ i g. getD-take n (tasksFrom us) i zeroNumbered (omega arith) ∙ entries-at (numberedAt us) zeroNumbered 32 i (omega arith) ∙ numbered-same ts us (4 * n) a b same i (omega arith)
+    ∙ sym (getD-take n (tasksFrom ts) i zeroNumbered (omega arith) ∙ entries-at (numberedAt ts) zeroNumbered 32 i (omega arith)))
+
+-- writing looks at the counts, and at the tasks and places that are counted
+writtenBy : ℕ → ℕ → List NumberedTask → List ℕ → ℕ → Written
+writtenBy n p ts ch lent =
+    cond (leb 1 n && (leb n 32 && (leb 1 p && leb p 12)))
+    (afterFault 5 (firstFault 1 0 ts) (afterFault 6 (firstUnknown 1 (map numberOf ts) ch) (lengthVerdict (length (fileOf ts ch)) lent)))
+    (written.Refused (refusal 8 0))
+
+written-by : (s : Schedule) (lent : ℕ) → writtenOf s lent ≡ writtenBy (s .count) (s .places) (tasksIn s) (placesIn s) lent
+unfolding writtenOf writtenBy
+written-by s lent = refl
+
+module _ (s t : Schedule) (count : s .count ≡ t .count) (places : s .places ≡ t .places) (tasks : tasksIn s ≡ tasksIn t) (chain : placesIn s ≡ placesIn t) where
+  written-same : (lent : ℕ) → writtenOf s lent ≡ writtenOf t lent
+  written-same lent =
+      written-by s lent ∙ ap (λ (x : ℕ). writtenBy x (s .places) (tasksIn s) (placesIn s) lent) count ∙ ap (λ (x : ℕ). writtenBy (t .count) x (tasksIn s) (placesIn s) lent) places
+      ∙ ap (λ (x : List NumberedTask). writtenBy (t .count) (t .places) x (placesIn s) lent) tasks ∙ ap (λ (x : List ℕ). writtenBy (t .count) (t .places) (tasksIn t) x lent) chain ∙ sym (written-by t lent)
+
+  file-same : fileBytes s ≡ fileBytes t
+  file-same = ap (λ (x : List NumberedTask). fileOf x (placesIn s)) tasks ∙ ap (fileOf (tasksIn t)) chain
+
+  gives-same : (old : List ℕ) (code : ℕ) (new : List ℕ) (long : ℕ) → GivesFile s old code new long → GivesFile t old code new long
+  gives-same old code new long g = record {
+    answers = g .answers ∙ ap writtenCode (written-same (length old));
+    leaves = g .leaves ∙ ap (λ (x : Written). leftBytes x (fileBytes s) old) (written-same (length old)) ∙ ap (λ (x : List ℕ). leftBytes (writtenOf t (length old)) x old) file-same;
+    gives-length = g .gives-length ∙ ap writtenLength (written-same (length old));
+  }
+
+count-fits : (long n : ℕ) → countFrom long n ≡ n → 4 * n ≤ long
+unfolding countFrom
+count-fits long n = go (eqb (long % 4) 0) (leb n (long / 4)) refl
+  where
+    go : (x y : Bool) → leb n (long / 4) ≡ y → cond (x && y) n 0 ≡ n → 4 * n ≤ long
+    go true true e h = omega (arith, leb-true n (long / 4) e)
+    go true false e h = omega arith
+    go false y e h = omega arith
+
+places-fit : (long p : ℕ) → placesFrom long p ≡ p → p ≤ long
+unfolding placesFrom
+places-fit long p = go (leb p long) refl
+  where
+    go : (y : Bool) → leb p long ≡ y → cond y p 0 ≡ p → p ≤ long
+    go true e h = leb-true p long e
+    go false e h = omega arith
+
+-- Demand 2, for C: writing what was read returns the file byte for byte, into lent bytes that are long enough.
+-- n and p are the counts that were got. us and vs hold the numbers that were got, as lists of any length that the counts fit: those themselves, or no more than is counted.
+module _ (b : List ℕ) (is : Bytes b) (code : ℕ) (ts ch : List ℕ) (n p : ℕ) (g : GivesSchedule (readFile b) code ts ch (n ∷ p ∷ [])) (fine : code ≡ 0)
+    (us vs : List ℕ) (count : countFrom (length us) n ≡ n) (places : placesFrom (length vs) p ≡ p) (tasks : take (4 * n) us ≡ take (4 * n) ts) (chain : take p vs ≡ take p ch) where
+  number : readFile b .refusal .number ≡ 0
+  number = omega (arith, g .answers)
+
+  limits : (readFile b .schedule .count ≤ 32) × (readFile b .schedule .places ≤ 12)
+  limits = read-counts b is number
+
+  read : scheduleFrom ts n ch p ≡ readFile b .schedule
+  read = given-schedule (readFile b) code ts ch (n ∷ p ∷ []) g (read-arrays b is number) (limits .0) (limits .1)
+
+  n-is : n ≡ readFile b .schedule .count
+  n-is = ap (λ (l : List ℕ). getD l 0 0) (g .gives-counts)
+
+  p-is : p ≡ readFile b .schedule .places
+  p-is = ap (λ (l : List ℕ). getD l 1 0) (g .gives-counts)
+
+  t-count : countFrom (length ts) n ≡ n
+  t-count = ap (λ (x : Schedule). x .count) read ∙ sym n-is
+
+  t-places : placesFrom (length ch) p ≡ p
+  t-places = ap (λ (x : Schedule). x .places) read ∙ sym p-is
+
+  same-in-tasks : tasksIn (scheduleFrom us n vs p) ≡ tasksIn (scheduleFrom ts n ch p)
+  same-in-tasks =
+      ap (λ (x : ℕ). take x (tasksFrom us)) count ∙ same-tasks ts us n (omega (arith, n-is, limits .0)) (count-fits (length ts) n t-count) (count-fits (length us) n count) tasks
+      ∙ ap (λ (x : ℕ). take x (tasksFrom ts)) (sym t-count)
+
+  same-in-places : placesIn (scheduleFrom us n vs p) ≡ placesIn (scheduleFrom ts n ch p)
+  same-in-places =
+      let h : p ≤ 12 = omega (arith, p-is, limits .1) in
+      ap (λ (x : ℕ). take x (chainFrom vs)) places ∙ front-places vs p h (places-fit (length vs) p places) ∙ chain ∙ sym (front-places ch p h (places-fit (length ch) p t-places))
+      ∙ ap (λ (x : ℕ). take x (chainFrom ch)) (sym t-places)
+
+  pub rewritten-for-c : (old : List ℕ) → length b ≤ length old → (code′ : ℕ) (new : List ℕ) (long : ℕ) → GivesFile (scheduleFrom us n vs p) old code′ new long
+      → (code′ ≡ 0) × (long ≡ length b) × (new ≡ b ++ drop (length b) old)
+  rewritten-for-c old h code′ new long w =
+      let k = gives-same (scheduleFrom us n vs p) (scheduleFrom ts n ch p) (count ∙ sym t-count) (places ∙ sym t-places) same-in-tasks same-in-places old code′ new long w in
+      let v : GivesFile (readFile b .schedule) old code′ new long = rw read at k in
+      let r = write-after-read b is number old h in
+      (v .answers ∙ ap writtenCode (r .0), v .gives-length ∙ ap writtenLength (r .0), v .leaves ∙ r .1)
+
 take-flat : (n : ℕ) (l : List NumberedTask) → take (4 * n) (flatTasks l) ≡ flatTasks (take n l)
 unfolding flatOf
 take-flat zero l = refl
@@ -145,23 +240,22 @@ take-flat (suc n) (t ∷ l) =
     let e : 4 * suc n ≡ suc (suc (suc (suc (4 * n)))) = omega arith in
     rw e (ap (λ (r : List ℕ). t .number ∷ t .task .period ∷ t .task .duration ∷ t .task .phase ∷ r) (take-flat n l))
 
--- a count that is not 0 is the one given, and the list holds it
-count-is : (long n : ℕ) → 1 ≤ countFrom long n → (countFrom long n ≡ n) × (4 * n ≤ long)
+-- a count that is not 0 is the one given
+count-is : (long n : ℕ) → 1 ≤ countFrom long n → countFrom long n ≡ n
 unfolding countFrom
-count-is long n = go (eqb (long % 4) 0) (leb n (long / 4)) refl
+count-is long n = go (eqb (long % 4) 0 && leb n (long / 4))
   where
-    go : (x y : Bool) → leb n (long / 4) ≡ y → 1 ≤ cond (x && y) n 0 → (cond (x && y) n 0 ≡ n) × (4 * n ≤ long)
-    go true true e h = (refl, omega (arith, leb-true n (long / 4) e))
-    go true false e h = absurd (omega arith)
-    go false y e h = absurd (omega arith)
+    go : (x : Bool) → 1 ≤ cond x n 0 → cond x n 0 ≡ n
+    go true h = refl
+    go false h = absurd (omega arith)
 
-places-are : (long p : ℕ) → 1 ≤ placesFrom long p → (placesFrom long p ≡ p) × (p ≤ long)
+places-are : (long p : ℕ) → 1 ≤ placesFrom long p → placesFrom long p ≡ p
 unfolding placesFrom
-places-are long p = go (leb p long) refl
+places-are long p = go (leb p long)
   where
-    go : (y : Bool) → leb p long ≡ y → 1 ≤ cond y p 0 → (cond y p 0 ≡ p) × (p ≤ long)
-    go true e h = (refl, leb-true p long e)
-    go false e h = absurd (omega arith)
+    go : (x : Bool) → 1 ≤ cond x p 0 → cond x p 0 ≡ p
+    go true h = refl
+    go false h = absurd (omega arith)
 
 -- What C gets of a schedule that it gave: no refusal, the same counts, the same numbers of the counted tasks and places, and zeros past them.
 pub record ComesBack (ts : List ℕ) (n : ℕ) (ch : List ℕ) (p code : ℕ) (ts′ ch′ counts : List ℕ) : Type 0 where
@@ -202,29 +296,29 @@ module _ (ts : List ℕ) (n : ℕ) (ch : List ℕ) (p : ℕ) (old : List ℕ) (c
     chain = length-padded 0 12 (placesIn s) (omega (arith, parts .1, facts .few-places));
   }
 
-  counts : (s .count ≡ n) × (4 * n ≤ length ts)
+  counts : s .count ≡ n
   counts = count-is (length ts) n (facts .some)
 
-  places : (s .places ≡ p) × (p ≤ length ch)
+  places : s .places ≡ p
   places = places-are (length ch) p (facts .placed)
 
   tasks-front : take (4 * n) (flatTasks (cleared s .tasks)) ≡ take (4 * n) ts
   tasks-front =
-      let e : length (tasksIn s) ≡ n = parts .0 ∙ counts .0 in
-      take-flat n (cleared s .tasks) ∙ ap (λ (x : ℕ). flatTasks (take x (cleared s .tasks))) (sym e) ∙ ap flatTasks (take-padded zeroNumbered 32 (tasksIn s) (omega (arith, facts .few, counts .0)))
-      ∙ ap (λ (x : ℕ). flatTasks (take x (tasksFrom ts))) (counts .0) ∙ front-tasks ts n (omega (arith, facts .few, counts .0)) (counts .1)
+      let e : length (tasksIn s) ≡ n = parts .0 ∙ counts in
+      take-flat n (cleared s .tasks) ∙ ap (λ (x : ℕ). flatTasks (take x (cleared s .tasks))) (sym e) ∙ ap flatTasks (take-padded zeroNumbered 32 (tasksIn s) (omega (arith, facts .few, counts)))
+      ∙ ap (λ (x : ℕ). flatTasks (take x (tasksFrom ts))) (counts) ∙ front-tasks ts n (omega (arith, facts .few, counts)) (count-fits (length ts) n counts)
 
   places-front : take p (cleared s .chain) ≡ take p ch
   places-front =
-      let e : length (placesIn s) ≡ p = parts .1 ∙ places .0 in
-      ap (λ (x : ℕ). take x (cleared s .chain)) (sym e) ∙ take-padded 0 12 (placesIn s) (omega (arith, facts .few-places, places .0))
-      ∙ ap (λ (x : ℕ). take x (chainFrom ch)) (places .0) ∙ front-places ch p (omega (arith, facts .few-places, places .0)) (places .1)
+      let e : length (placesIn s) ≡ p = parts .1 ∙ places in
+      ap (λ (x : ℕ). take x (cleared s .chain)) (sym e) ∙ take-padded 0 12 (placesIn s) (omega (arith, facts .few-places, places))
+      ∙ ap (λ (x : ℕ). take x (chainFrom ch)) (places) ∙ front-places ch p (omega (arith, facts .few-places, places)) (places-fit (length ch) p places)
 
   pub reread-for-c : (code′ : ℕ) (ts′ ch′ counts′ : List ℕ) → GivesSchedule (readFile (take long new)) code′ ts′ ch′ counts′ → ComesBack ts n ch p code′ ts′ ch′ counts′
   reread-for-c code′ ts′ ch′ counts′ g =
       let v = rw is-read at g in
-      let m : cleared s .count ≡ n = parts .0 ∙ counts .0 in
-      let q : cleared s .places ≡ p = parts .1 ∙ places .0 in
+      let m : cleared s .count ≡ n = parts .0 ∙ counts in
+      let q : cleared s .places ≡ p = parts .1 ∙ places in
       let k : counts′ ≡ n ∷ p ∷ [] = v .gives-counts ∙ ap (λ (x : ℕ). x ∷ cleared s .places ∷ []) m ∙ ap (λ (x : ℕ). n ∷ x ∷ []) q in
       let b = given-schedule (record { refusal = none; schedule = cleared s }) code′ ts′ ch′ counts′ v cleared-arrays (omega (arith, parts .0, facts .few)) (omega (arith, parts .1, facts .few-places)) in
       record {
