@@ -4,7 +4,7 @@ use native.Mathlib.Omega.{arith}
 use native.Mathlib.Decide.{decLt}
 use mathlib.Core.Path.{_≡_, refl, sym, ap, _∙_}
 use mathlib.Core.Bool.{Bool, true, false, cond, _&&_}
-use mathlib.Core.List.{List, [], _∷_}
+use mathlib.Core.List.{List}
 use lib.Dec.{leb, eqb}
 use lib.ListN.{length, take}
 use lib.Seq.{ext-getD, getD-take, length-take-le}
@@ -12,7 +12,7 @@ use borrow.Author.Tests.{le-leb, leb-true}
 use Rattle.task.specs.declared.Task.{Task}
 use Rattle.chain.specs.declared.Chain.{Chain}
 use Rattle.chain.specs.Chains.{tasksOf, at, zeroTask}
-use Rattle.chain.specs.Flat.{flatOf, flatChain, tasksIn, in-count, at-in, in-flat}
+use Rattle.chain.specs.Flat.{taskFields, flatChain, tasksIn, in-count, at-in, in-flat, length-flat}
 use Rattle.chain.specs.Entries.{entries-length, entries-at, entries-are}
 use Rattle.chain.specs.StandsFor.{StandsFor, stands-same, stands-wrong}
 use Rattle.capi_chain.specs.FlatChain.{taskAt, placesOf, chainFrom}
@@ -68,14 +68,9 @@ module _ (list : List ℕ) (places : ℕ) where
 
 -- ---- the flat list of a chain, as `mo_chain_of_schedule` gives it
 
-flat-long : (l : List Task) → length (flatChain l) ≡ 3 * length l
-unfolding flatOf
-flat-long [] = omega arith
-flat-long (a ∷ l) = omega (arith, flat-long l)
-
 flat-at : (l : List Task) (i : ℕ) → i < length l → taskAt (flatChain l) i ≡ at l i
 unfolding taskAt
-flat-at l i h = rw (le-leb (3 * i + 3) (length (flatChain l)) (omega (arith, flat-long l))) (sym (at-in (flatChain l) i (rw (in-flat l) h))) ∙ ap (λ (x : List Task). at x i) (in-flat l)
+flat-at l i h = rw (le-leb (3 * i + 3) (length (flatChain l)) (omega (arith, length-flat taskFields 3 (λ x. refl) l))) (sym (at-in (flatChain l) i (rw (in-flat l) h))) ∙ ap (λ (x : List Task). at x i) (in-flat l)
 
 short : (n : ℕ) → n ≤ 12 → placesOf 36 n ≡ n
 unfolding placesOf
@@ -94,5 +89,5 @@ chain-given-back c twelve few = ap (λ (t : List Task). made t (chainFrom (flatC
 
     places : chainFrom (flatChain (c .tasks)) (c .places) .places ≡ c .places
     places =
-        let n : length (flatChain (c .tasks)) ≡ 36 = flat-long (c .tasks) ∙ ap (λ (x : ℕ). 3 * x) twelve in
+        let n : length (flatChain (c .tasks)) ≡ 36 = length-flat taskFields 3 (λ x. refl) (c .tasks) ∙ ap (λ (x : ℕ). 3 * x) twelve in
         chain-count (flatChain (c .tasks)) (c .places) ∙ ap (λ (x : ℕ). placesOf x (c .places)) n ∙ short (c .places) few

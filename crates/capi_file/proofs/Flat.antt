@@ -7,9 +7,8 @@ use mathlib.Core.Path.{_≡_, sym, ap, _∙_}
 use mathlib.Core.List.{List, [], _∷_, _++_, append-assoc, append-nil}
 use lib.ListN.{length, getD, set, take, replicate, length-append, length-set}
 use lib.Seq.{sets, take-all, length-take-le}
-use Rattle.chain.specs.Flat.{flatOf}
+use Rattle.chain.specs.Flat.{flatOf, length-flat, flat-more}
 use Rattle.chain.specs.Entries.{entries, entries-length}
-use Rattle.chain.proofs.Filling.{length-flat, flat-more}
 use Rattle.schedule.specs.Schedules.{padded}
 use Rattle.schedule.specs.Padding.{padded-none, padded-set, padded-same, padded-whole}
 

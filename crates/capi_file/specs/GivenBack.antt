@@ -4,15 +4,14 @@ use Prim.Native.Nat.{ℕ, zero, suc, _+_, _*_, _/_, _%_, _≤_, _<_}
 use native.Mathlib.Omega.{arith}
 use mathlib.Core.Path.{_≡_, refl, sym, ap, _∙_}
 use mathlib.Core.Bool.{Bool, true, false, cond, _&&_}
-use mathlib.Core.List.{List, [], _∷_, _++_, map, append-assoc}
+use mathlib.Core.List.{List, [], _∷_, _++_, map}
 use lib.Dec.{leb, eqb}
 use lib.ListN.{length, getD, take, drop}
-use lib.Seq.{take-at, take-suc, ext-getD, getD-take, length-take-le}
+use lib.Seq.{take-at, take-add, drop-cons, ext-getD, getD-take, length-take-le}
 use borrow.Author.Tests.{le-leb, leb-true}
 use Rattle.refusal.specs.Refusals.{refusal, none}
-use Rattle.chain.specs.Flat.{flatOf}
+use Rattle.chain.specs.Flat.{flatOf, length-flat, flat-more, take-flat}
 use Rattle.chain.specs.Entries.{entries-length, entries-at, entries-are}
-use Rattle.chain.proofs.Filling.{flat-more}
 use Rattle.schedule.specs.declared.NumberedTask.{NumberedTask}
 use Rattle.schedule.specs.declared.Schedule.{Schedule}
 use Rattle.schedule.specs.Schedules.{numberOf, tasksIn, placesIn, zeroNumbered}
@@ -28,11 +27,6 @@ use Rattle.file_writer.specs.Accepted.{Accepted, accepted}
 use Rattle.round_trip.specs.RoundTrips.{Arrays, cleared, read-arrays, read-counts, write-after-read, read-after-write, cleared-parts}
 use Rattle.capi_file.specs.Calls.{writtenCode, writtenLength, GivesSchedule, GivesFile}
 use Rattle.capi_file.specs.FlatSchedule.{numberedAt, placeAt, tasksFrom, chainFrom, countFrom, placesFrom, scheduleFrom, numberedFields, flatTasks}
-
-flat-long : (ts : List NumberedTask) → length (flatTasks ts) ≡ 4 * length ts
-unfolding flatOf
-flat-long [] = omega arith
-flat-long (t ∷ ts) = omega (arith, flat-long ts)
 
 -- four numbers of the list are a task
 fields-at : (ts : List NumberedTask) (i : ℕ) → i < length ts
@@ -50,7 +44,7 @@ fields-at (t ∷ ts) (suc i) h =
 
 numbered-at : (ts : List NumberedTask) (i : ℕ) → i < length ts → numberedAt (flatTasks ts) i ≡ getD ts i zeroNumbered
 unfolding numberedAt
-numbered-at ts i h = rw (le-leb (4 * i + 4) (length (flatTasks ts)) (omega (arith, flat-long ts))) (fields-at ts i h)
+numbered-at ts i h = rw (le-leb (4 * i + 4) (length (flatTasks ts)) (omega (arith, length-flat numberedFields 4 (λ x. refl) ts))) (fields-at ts i h)
 
 count-back : (n : ℕ) → n ≤ 32 → countFrom 128 n ≡ n
 unfolding countFrom
@@ -63,7 +57,7 @@ places-back n h = rw (le-leb n 12 h)
 -- C gets the schedule back, whatever it holds
 pub schedule-given-back : (s : Schedule) → Arrays s → s .count ≤ 32 → s .places ≤ 12 → scheduleFrom (flatTasks (s .tasks)) (s .count) (s .chain) (s .places) ≡ s
 schedule-given-back s a few few-places =
-    let n : length (flatTasks (s .tasks)) ≡ 128 = flat-long (s .tasks) ∙ ap (λ (x : ℕ). 4 * x) (a .tasks) in
+    let n : length (flatTasks (s .tasks)) ≡ 128 = length-flat numberedFields 4 (λ x. refl) (s .tasks) ∙ ap (λ (x : ℕ). 4 * x) (a .tasks) in
     let t = entries-are (numberedAt (flatTasks (s .tasks))) zeroNumbered (s .tasks) 32 (a .tasks) (λ i h. numbered-at (s .tasks) i (omega (arith, a .tasks))) in
     let c = entries-are (placeAt (s .chain)) 0 (s .chain) 12 (a .chain) (λ i h. refl) in
     let k = ap (λ (x : ℕ). countFrom x (s .count)) n ∙ count-back (s .count) few in
@@ -100,13 +94,7 @@ four-more l k h =
     let a : k + 1 ≡ suc k = omega arith in
     let b : k + 2 ≡ suc (suc k) = omega arith in
     let c : k + 3 ≡ suc (suc (suc k)) = omega arith in
-    let e : k + 4 ≡ suc (suc (suc (suc k))) = omega arith in
-    rw (a, b, c, e)
-    (take-suc l (suc (suc (suc k))) 0 (omega arith) ∙ ap (λ (r : List ℕ). r ++ (getD l (suc (suc (suc k))) 0 ∷ [])) (take-suc l (suc (suc k)) 0 (omega arith)
-    ∙ ap (λ (r : List ℕ). r ++ (getD l (suc (suc k)) 0 ∷ [])) (take-suc l (suc k) 0 (omega arith) ∙ ap (λ (r : List ℕ). r ++ (getD l (suc k) 0 ∷ [])) (take-suc l k 0 (omega arith))))
-    ∙ append-assoc ((take k l ++ (getD l k 0 ∷ [])) ++ (getD l (suc k) 0 ∷ [])) (getD l (suc (suc k)) 0 ∷ []) (getD l (suc (suc (suc k))) 0 ∷ [])
-    ∙ append-assoc (take k l ++ (getD l k 0 ∷ [])) (getD l (suc k) 0 ∷ []) (getD l (suc (suc k)) 0 ∷ getD l (suc (suc (suc k))) 0 ∷ [])
-    ∙ append-assoc (take k l) (getD l k 0 ∷ []) (getD l (suc k) 0 ∷ getD l (suc (suc k)) 0 ∷ getD l (suc (suc (suc k))) 0 ∷ []))
+    take-add k 4 l ∙ rw (drop-cons l k 0 (omega arith), drop-cons l (suc k) 0 (omega arith), drop-cons l (suc (suc k)) 0 (omega arith), drop-cons l (suc (suc (suc k))) 0 (omega arith), a, b, c)
 
 -- of a list that holds them, the flat list of the first n tasks is its own front
 front-tasks : (ts : List ℕ) (n : ℕ) → n ≤ 32 → 4 * n ≤ length ts → flatTasks (take n (tasksFrom ts)) ≡ take (4 * n) ts
@@ -232,14 +220,6 @@ module _ (b : List ℕ) (is : Bytes b) (code : ℕ) (ts ch : List ℕ) (n p : �
       let r = write-after-read b is number old h in
       (v .answers ∙ ap writtenCode (r .0), v .gives-length ∙ ap writtenLength (r .0), v .leaves ∙ r .1)
 
-take-flat : (n : ℕ) (l : List NumberedTask) → take (4 * n) (flatTasks l) ≡ flatTasks (take n l)
-unfolding flatOf
-take-flat zero l = refl
-take-flat (suc n) [] = let e : 4 * suc n ≡ suc (suc (suc (suc (4 * n)))) = omega arith in rw e
-take-flat (suc n) (t ∷ l) =
-    let e : 4 * suc n ≡ suc (suc (suc (suc (4 * n)))) = omega arith in
-    rw e (ap (λ (r : List ℕ). t .number ∷ t .task .period ∷ t .task .duration ∷ t .task .phase ∷ r) (take-flat n l))
-
 -- a count that is not 0 is the one given
 count-is : (long n : ℕ) → 1 ≤ countFrom long n → countFrom long n ≡ n
 unfolding countFrom
@@ -305,7 +285,7 @@ module _ (ts : List ℕ) (n : ℕ) (ch : List ℕ) (p : ℕ) (old : List ℕ) (c
   tasks-front : take (4 * n) (flatTasks (cleared s .tasks)) ≡ take (4 * n) ts
   tasks-front =
       let e : length (tasksIn s) ≡ n = parts .0 ∙ counts in
-      take-flat n (cleared s .tasks) ∙ ap (λ (x : ℕ). flatTasks (take x (cleared s .tasks))) (sym e) ∙ ap flatTasks (take-padded zeroNumbered 32 (tasksIn s) (omega (arith, facts .few, counts)))
+      take-flat numberedFields 4 (λ x. refl) n (cleared s .tasks) ∙ ap (λ (x : ℕ). flatTasks (take x (cleared s .tasks))) (sym e) ∙ ap flatTasks (take-padded zeroNumbered 32 (tasksIn s) (omega (arith, facts .few, counts)))
       ∙ ap (λ (x : ℕ). flatTasks (take x (tasksFrom ts))) (counts) ∙ front-tasks ts n (omega (arith, facts .few, counts)) (count-fits (length ts) n counts)
 
   places-front : take p (cleared s .chain) ≡ take p ch

@@ -19,6 +19,7 @@ use Rattle.chain.specs.declared.Verdict.the-variants.{Accepted, Refused}
 use Rattle.chain.specs.Chains.{tasksOf, at, zeroTask}
 use Rattle.chain.specs.Hyperperiod.{hyperFrom, hyperOf}
 use Rattle.chain.specs.Checks.{firstFault, afterFault, hyperVerdict, verdictFor, verdictOf, verdictIn, Sound, Checked}
+use Rattle.chain.specs.StandsFor.{eight}
 
 -- ---- 5
 
@@ -72,12 +73,10 @@ hyper-above l g = rw (lt-leb (hyperOf l) 60000000 g)
 
 module _ (n : ℕ) (l : List Task) where
   pub check-low : n < 1 → Refused (refusal 8 0) ≡ verdictFor n l
-  unfolding verdictFor
-  check-low h = rw (lt-leb 1 n h)
+  check-low h = sym (eight n l (λ g. absurd (omega arith)))
 
   pub check-high : 1 ≤ n → 12 < n → Refused (refusal 8 0) ≡ verdictFor n l
-  unfolding verdictFor
-  check-high g h = rw (le-leb 1 n g, lt-leb n 12 h)
+  check-high g h = sym (eight n l (λ k. h))
 
   module _ (low : 1 ≤ n) (high : n ≤ 12) where
     pub check-fault : (p : ℕ) → p ≡ firstFault 1 l → (p ≡ 0 → ⊥) → Refused (refusal 5 p) ≡ verdictFor n l

@@ -1,31 +1,18 @@
 -- A flat list that is filled a task at a time: the front that is filled holds the first tasks.
-use Prim.Native.Nat.{ℕ, zero, suc, _+_, _*_, _≤_, _<_}
+use Prim.Native.Nat.{ℕ, suc, _+_, _*_, _≤_, _<_}
 use native.Mathlib.Omega.{arith}
 use native.Mathlib.Decide.{decLt}
 use native.Mathlib.Numerals.{add-one}
 use mathlib.Core.Path.{_≡_, refl, sym, ap, _∙_}
-use mathlib.Core.List.{List, [], _∷_, _++_, append-assoc, append-nil}
-use lib.ListN.{length, getD, set, take, length-append, length-set}
+use mathlib.Core.List.{List, [], _∷_, _++_, append-assoc}
+use lib.ListN.{length, set, take, length-set}
 use lib.Seq.{take-all, take-suc-set, length-take-le}
 use borrow.Author.Tests.{le-ltb, lt-ltb}
 use Rattle.task.specs.declared.Task.{Task}
 use Rattle.chain.specs.declared.Chain.{Chain}
 use Rattle.chain.specs.Chains.{at, zeroTask}
-use Rattle.chain.specs.Flat.{flatOf, taskFields, flatChain, flatLength, tasksIn}
+use Rattle.chain.specs.Flat.{flatOf, taskFields, flatChain, flatLength, tasksIn, length-flat, flat-more}
 use Rattle.chain.specs.StandsFor.{StandsFor, front-stands}
-
--- of elements that have k numbers each
-module _ {A : Type 0} (f : A → List ℕ) (k : ℕ) (each : (x : A) → length (f x) ≡ k) where
-  pub length-flat : (l : List A) → length (flatOf f l) ≡ k * length l
-  unfolding flatOf
-  length-flat [] = omega arith
-  length-flat (x ∷ l) = length-append (f x) (flatOf f l) ∙ (omega (arith, each x, length-flat l))
-
-  pub flat-more : (d : A) (l : List A) (i : ℕ) → i < length l → flatOf f (take (suc i) l) ≡ flatOf f (take i l) ++ f (getD l i d)
-  unfolding flatOf
-  flat-more d [] i h = absurd (omega arith)
-  flat-more d (x ∷ l) zero h = append-nil (f x)
-  flat-more d (x ∷ l) (suc i) h = ap (λ (r : List ℕ). f x ++ r) (flat-more d l i (omega arith)) ∙ sym (append-assoc (f x) (flatOf f (take i l)) (f (getD l i d)))
 
 module _ (list : List ℕ) (k x y z : ℕ) (h : k + 3 ≤ length list) where
   three-stores : take (k + 3) (set (set (set list k x) (k + 1) y) (k + 2) z) ≡ take k list ++ (x ∷ y ∷ z ∷ [])

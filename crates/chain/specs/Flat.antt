@@ -1,11 +1,12 @@
 -- A chain's tasks as the flat list T, D, F, T, D, F, ..
 use Prim.Native.Nat.{ℕ, zero, suc, _+_, _-_, _*_, _/_, _≤_, _<_}
 use native.Mathlib.Omega.{arith}
-use mathlib.Core.Path.{_≡_, refl, ap, _∙_}
+use mathlib.Core.Path.{_≡_, refl, sym, ap, _∙_}
 use mathlib.Core.Bool.{cond}
-use mathlib.Core.List.{List, [], _∷_, _++_}
+use mathlib.Core.List.{List, [], _∷_, _++_, append-assoc, append-nil}
 use lib.Dec.{ltb}
-use lib.ListN.{length, getD, take}
+use lib.ListN.{length, getD, take, length-append}
+use lib.Seq.{take-nil, take-append-add}
 use Rattle.task.specs.declared.Task.{Task}
 use Rattle.chain.specs.declared.Chain.{Chain}
 use Rattle.chain.specs.Chains.{tasksOf, at, lastPlace}
@@ -32,7 +33,29 @@ tasksIn (t ∷ d ∷ f ∷ l) = record { period = t; duration = d; phase = f } �
 abbrev pub flatLength : ℕ → ℕ
 flatLength n = cond (ltb 12 n) 0 (3 * n)
 
--- ---- their number
+-- ---- flat lists of elements that have k numbers each
+
+module _ {A : Type 0} (f : A → List ℕ) (k : ℕ) (each : (x : A) → length (f x) ≡ k) where
+  pub length-flat : (l : List A) → length (flatOf f l) ≡ k * length l
+  unfolding flatOf
+  length-flat [] = omega arith
+  length-flat (x ∷ l) = length-append (f x) (flatOf f l) ∙ (omega (arith, each x, length-flat l))
+
+  pub flat-more : (d : A) (l : List A) (i : ℕ) → i < length l → flatOf f (take (suc i) l) ≡ flatOf f (take i l) ++ f (getD l i d)
+  unfolding flatOf
+  flat-more d [] i h = absurd (omega arith)
+  flat-more d (x ∷ l) zero h = append-nil (f x)
+  flat-more d (x ∷ l) (suc i) h = ap (λ (r : List ℕ). f x ++ r) (flat-more d l i (omega arith)) ∙ sym (append-assoc (f x) (flatOf f (take i l)) (f (getD l i d)))
+
+  pub take-flat : (n : ℕ) (l : List A) → take (k * n) (flatOf f l) ≡ flatOf f (take n l)
+  unfolding flatOf
+  take-flat zero l = let e : k * 0 ≡ 0 = omega arith in rw e
+  take-flat (suc n) [] = take-nil (k * suc n)
+  take-flat (suc n) (x ∷ l) =
+      let e : k * suc n ≡ length (f x) + k * n = omega (arith, each x) in
+      ap (λ (m : ℕ). take m (f x ++ flatOf f l)) e ∙ take-append-add (f x) (flatOf f l) (k * n) ∙ ap (λ (r : List ℕ). f x ++ r) (take-flat n l)
+
+-- ---- the number of tasks in a flat list
 
 pub in-long : (l : List ℕ) → 3 * length (tasksIn l) ≤ length l
 unfolding tasksIn
@@ -54,7 +77,7 @@ in-count l = omega (arith, in-long l, in-all l)
 pub in-last : (l : List ℕ) → length l / 3 - 1 ≡ lastPlace (tasksIn l)
 in-last l = ap (λ (n : ℕ). n - 1) (in-count l)
 
--- ---- each of them
+-- ---- each of the tasks
 
 pub at-in : (l : List ℕ) (i : ℕ) → i < length (tasksIn l) → at (tasksIn l) i ≡ record { period = getD l (3 * i) 0; duration = getD l (3 * i + 1) 0; phase = getD l (3 * i + 2) 0 }
 unfolding tasksIn
@@ -75,14 +98,6 @@ unfolding tasksIn flatOf
 in-flat [] = refl
 in-flat (a ∷ l) = ap (λ (r : List Task). a ∷ r) (in-flat l)
 
-take-flat : (n : ℕ) (l : List Task) → take (3 * n) (flatChain l) ≡ flatChain (take n l)
-unfolding flatOf
-take-flat zero l = refl
-take-flat (suc n) [] = let e : 3 * suc n ≡ suc (suc (suc (3 * n))) = omega arith in rw e
-take-flat (suc n) (a ∷ l) =
-    let e : 3 * suc n ≡ suc (suc (suc (3 * n))) = omega arith in
-    rw e (ap (λ (r : List ℕ). a .period ∷ a .duration ∷ a .phase ∷ r) (take-flat n l))
-
 -- the front of a chain's flat list holds the tasks at its places
 pub flat-front : (c : Chain) → tasksIn (take (3 * c .places) (flatChain (c .tasks))) ≡ tasksOf c
-flat-front c = ap tasksIn (take-flat (c .places) (c .tasks)) ∙ in-flat (tasksOf c)
+flat-front c = ap tasksIn (take-flat taskFields 3 (λ x. refl) (c .places) (c .tasks)) ∙ in-flat (tasksOf c)

@@ -28,7 +28,8 @@ pub record StandsFor (l : List Task) (c : Chain) : Type 0 where
 pub stands-same : (l : List Task) (c : Chain) → l ≡ tasksOf c → length l ≡ c .places → StandsFor l c
 stands-same l c e n = record { verdict = ap (λ (x : ℕ). verdictFor x l) n ∙ ap (verdictFor (c .places)) e; tasks = λ h a. e; places = λ h a. n }
 
-eight : (n : ℕ) (l : List Task) → (1 ≤ n → 12 < n) → verdictFor n l ≡ Refused (refusal 8 0)
+-- 8 where the number of places is not 1 to 12
+pub eight : (n : ℕ) (l : List Task) → (1 ≤ n → 12 < n) → verdictFor n l ≡ Refused (refusal 8 0)
 unfolding verdictFor
 eight n l h = elim (decLt n 1) [
   | yes u ↦ rw (lt-leb 1 n u)
