@@ -1,8 +1,9 @@
-pub mod Compare
 pub mod Jobs
 pub mod ReadsAsWalk
 pub mod WellSpaced
 pub mod GreatestAge
 pub mod MadeTable
 pub mod Agreement
+pub mod EveryChain
 pub mod Reached
+pub mod Answers

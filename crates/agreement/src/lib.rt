@@ -1,97 +1,63 @@
-// The third demand at the level of the calls. Each function makes tables and answers whether they agree with the other calls;
-// it promises that the answer is `true`, for any chain, places, ticks and lists, and that the lists are as making leaves them. Where a table is not completed, or a tick lies outside the range, there is nothing to compare.
+// The third demand at the level of the calls. Each function makes tables, calls what the demand compares with them, and answers what each call gave.
+// Its contract says by equations what that is, for any chain, places, ticks and lists, and beside it that the values agree wherever the table is completed.
 use chain::Chain;
 use figures::Greatest;
+use maker::Figures;
 use maker::Made;
 use table::Reading;
 use task::Tick;
 use timing::Span;
 ghost use mathlib.Core.Path.{_≡_};
-ghost use Prim.Native.Nat.{_+_, _≤_, _<_};
-ghost use Rattle.agreement.specs.Compare.{sameDelay, sameEntries, sameAnchors, spanAtMost, spanIs, reachedAt, Agrees};
+ghost use lib.ListN.{getD};
+ghost use Rattle.agreement.specs.Answers.{figuresIn, lastBefore, ReadAndWalked, CutTwice, NotExceeded, ReachedThere};
 
-// Whether a walked delay and a delay read are the same; false where one is refused.
-fn same_delay(walked: Span, read: Reading) -> bool
-    ensures { λ r. ⌜ r ≡ sameDelay walked read ⌝ }
+// The figures with which the table that making left is read: zeros where making was refused.
+fn figures_in(m: Made) -> Figures
+    ensures { λ r. ⌜ r ≡ figuresIn m ⌝ }
 {
-    match walked {
-        Span::Ticks(a) => match read {
-            Reading::Delay(b) => a == b,
-            Reading::Refused(_) => false,
+    match m {
+        Made::Whole(f) => f,
+        Made::Short(f) => f,
+        Made::Refused(_) => Figures {
+            anchors: 0,
+            tick: Tick(0),
+            hyperperiod: 0,
+            walked: 0,
         },
-        Span::Refused(_) => false,
     }
+}
+
+// What making answered, the delay read from the table and the delay walked.
+pub struct Delays {
+    pub made: Made,
+    pub read: Reading,
+    pub walked: Span,
 }
 
 // Make a table cut at p, then read it and walk at tick t.
-pub fn table_is_walk(c: Chain, p: usize, t: Tick, starts: &mut [u64], latencies: &mut [u64]) -> bool
-    ensures { λ r. ⌜ Agrees c p (now (starts .entry)) (now (latencies .entry)) (now (starts .exit)) (now (latencies .exit)) r ⌝ }
+pub fn table_is_walk(
+    c: Chain,
+    p: usize,
+    t: Tick,
+    starts: &mut [u64],
+    latencies: &mut [u64],
+) -> Delays
+    ensures { λ r. ⌜ ReadAndWalked c p (t .0) (now (starts .entry)) (now (latencies .entry)) (now (starts .exit)) (now (latencies .exit)) r ⌝ }
 {
-    let m = maker::make_table(c, p, starts, latencies);
-    match m {
-        Made::Short(_) => {
-            return true;
-        }
-        Made::Refused(_) => {
-            return true;
-        }
-        Made::Whole(f) => {
-            let from = f.tick;
-            if t.0 < from.0 {
-                return true;
-            }
-            if 1000000000000 < t.0 {
-                return true;
-            }
-            same_delay(
-                timing::delay(c, t),
-                table::read_at(starts, latencies, f.anchors, f.hyperperiod, t.0),
-            )
-        }
-    }
+    let made = maker::make_table(c, p, starts, latencies);
+    let f = figures_in(made);
+    let read = table::read_at(starts, latencies, f.anchors, f.hyperperiod, t.0);
+    let walked = timing::delay(c, t);
+    Delays { made, read, walked }
 }
 
-// Whether two lists hold n entries each, and these are the same.
-fn same_entries(a: &[u64], b: &[u64], n: usize) -> bool
-    ensures { λ r. ⌜ r ≡ sameEntries (now (a .entry)) (now (b .entry)) n ⌝ }
-{
-    if a.len() < n {
-        return false;
-    }
-    if b.len() < n {
-        return false;
-    }
-    let mut i = n;
-    while 0 < i {
-        i -= 1;
-        if a[i] != b[i] {
-            return false;
-        }
-    }
-    true
+// What making answered at each of two cuts.
+pub struct Cuts {
+    pub first: Made,
+    pub second: Made,
 }
 
-// Whether two tables have the same anchors, n and k being their numbers.
-fn same_anchors(
-    n: usize,
-    k: usize,
-    starts: &[u64],
-    latencies: &[u64],
-    other_starts: &[u64],
-    other_latencies: &[u64],
-) -> bool
-    ensures { λ r. ⌜ r ≡ sameAnchors n k (now (starts .entry)) (now (latencies .entry)) (now («other_starts» .entry)) (now («other_latencies» .entry)) ⌝ }
-{
-    if n != k {
-        return false;
-    }
-    if !same_entries(starts, other_starts, n) {
-        return false;
-    }
-    same_entries(latencies, other_latencies, n)
-}
-
-// Make a table cut at p and one cut at q, each in two lists of its own, then compare the anchors.
+// Make a table cut at p and one cut at q, each in two lists of its own.
 pub fn cuts_agree(
     c: Chain,
     p: usize,
@@ -100,44 +66,23 @@ pub fn cuts_agree(
     latencies: &mut [u64],
     other_starts: &mut [u64],
     other_latencies: &mut [u64],
-) -> bool
-    ensures { λ r. ⌜ (Agrees c p (now (starts .entry)) (now (latencies .entry)) (now (starts .exit)) (now (latencies .exit)) r) × (Agrees c q (now («other_starts» .entry)) (now («other_latencies» .entry)) (now («other_starts» .exit)) (now («other_latencies» .exit)) r) ⌝ }
+) -> Cuts
+    ensures { λ r. ⌜ CutTwice c p q (now (starts .entry)) (now (latencies .entry)) (now (starts .exit)) (now (latencies .exit)) (now («other_starts» .entry)) (now («other_latencies» .entry)) (now («other_starts» .exit)) (now («other_latencies» .exit)) r ⌝ }
 {
-    let m = maker::make_table(c, p, starts, latencies);
-    let k = maker::make_table(c, q, other_starts, other_latencies);
-    let Made::Whole(f) = m else {
-        return true;
-    };
-    let Made::Whole(g) = k else {
-        return true;
-    };
-    same_anchors(
-        f.anchors,
-        g.anchors,
-        starts,
-        latencies,
-        other_starts,
-        other_latencies,
-    )
+    let first = maker::make_table(c, p, starts, latencies);
+    let second = maker::make_table(c, q, other_starts, other_latencies);
+    Cuts { first, second }
 }
 
-// Whether a span of ticks and k more come to at most `top`; a refused one has no ticks.
-fn at_most(s: Span, k: u64, top: u64) -> bool
-    requires { ⌜ k ≤ 1 ⌝ }
-    ensures { λ r. ⌜ r ≡ spanAtMost s k top ⌝ }
-{
-    match s {
-        Span::Ticks(a) => {
-            if top < k {
-                return false;
-            }
-            a <= top - k
-        }
-        Span::Refused(_) => true,
-    }
+// What making answered, the table's greatest latency, a delay and an age.
+pub struct Bounds {
+    pub made: Made,
+    pub greatest: Greatest,
+    pub delay: Span,
+    pub age: Span,
 }
 
-// Make a table cut at p, then hold the delay at tick t and one more than the age at tick z to its greatest latency.
+// Make a table cut at p, then take its greatest latency, the delay at tick t and the age at tick z.
 pub fn greatest_not_exceeded(
     c: Chain,
     p: usize,
@@ -145,67 +90,81 @@ pub fn greatest_not_exceeded(
     z: Tick,
     starts: &mut [u64],
     latencies: &mut [u64],
-) -> bool
-    ensures { λ r. ⌜ Agrees c p (now (starts .entry)) (now (latencies .entry)) (now (starts .exit)) (now (latencies .exit)) r ⌝ }
+) -> Bounds
+    ensures { λ r. ⌜ NotExceeded c p (t .0) (z .0) (now (starts .entry)) (now (latencies .entry)) (now (starts .exit)) (now (latencies .exit)) r ⌝ }
 {
-    let m = maker::make_table(c, p, starts, latencies);
-    let Made::Whole(f) = m else {
-        return true;
-    };
-    let v = figures::greatest_of(starts, latencies, f.anchors, f.hyperperiod);
-    let Greatest::Latency(top) = v else {
-        return false;
-    };
-    if !at_most(timing::delay(c, t), 0, top) {
-        return false;
-    }
-    at_most(timing::age(c, z), 1, top)
-}
-
-// Whether a span is these ticks.
-fn is_span(s: Span, ticks: u64) -> bool
-    ensures { λ r. ⌜ r ≡ spanIs s ticks ⌝ }
-{
-    match s {
-        Span::Ticks(a) => a == ticks,
-        Span::Refused(_) => false,
+    let made = maker::make_table(c, p, starts, latencies);
+    let f = figures_in(made);
+    let greatest = figures::greatest_of(starts, latencies, f.anchors, f.hyperperiod);
+    let delay = timing::delay(c, t);
+    let age = timing::age(c, z);
+    Bounds {
+        made,
+        greatest,
+        delay,
+        age,
     }
 }
 
-// Whether the delay at tick u is `top`, and the age just before that press is booked one less.
-fn reached_at(c: Chain, u: u64, top: u64) -> bool
-    requires { ⌜ (1 ≤ top) × (u + top ≤ 1000000000000) ⌝ }
-    ensures { λ r. ⌜ r ≡ reachedAt c u top ⌝ }
+// Entry i of a list, 0 past its end.
+fn entry(list: &[u64], i: usize) -> u64
+    ensures { λ r. ⌜ r ≡ getD (now (list .entry)) i 0 ⌝ }
 {
-    if !is_span(timing::delay(c, Tick(u)), top) {
-        return false;
+    if i < list.len() {
+        return list[i];
     }
-    is_span(timing::age(c, Tick(u + top - 1)), top - 1)
+    0
 }
 
-// Make a table cut at p. Where anchor i, counted from 0, has the greatest latency, it is the delay at the anchor's start and one more than an age.
+// The last tick before start + latency, where that is at most the upper tick; else 0.
+fn last_before(start: u64, latency: u64) -> u64
+    ensures { λ r. ⌜ r ≡ lastBefore start latency ⌝ }
+{
+    if latency < 1 {
+        return 0;
+    }
+    if 1000000000000 < latency {
+        return 0;
+    }
+    if 1000000000000 - latency < start {
+        return 0;
+    }
+    start + latency - 1
+}
+
+// What making answered, the table's greatest latency, an anchor, the delay at its start, and the age just before the press there is booked.
+pub struct Peak {
+    pub made: Made,
+    pub greatest: Greatest,
+    pub start: u64,
+    pub latency: u64,
+    pub delay: Span,
+    pub age: Span,
+}
+
+// Make a table cut at p, then walk and age at anchor i, counted from 0.
 pub fn greatest_reached(
     c: Chain,
     p: usize,
     i: usize,
     starts: &mut [u64],
     latencies: &mut [u64],
-) -> bool
-    ensures { λ r. ⌜ Agrees c p (now (starts .entry)) (now (latencies .entry)) (now (starts .exit)) (now (latencies .exit)) r ⌝ }
+) -> Peak
+    ensures { λ r. ⌜ ReachedThere c p i (now (starts .entry)) (now (latencies .entry)) (now (starts .exit)) (now (latencies .exit)) r ⌝ }
 {
-    let m = maker::make_table(c, p, starts, latencies);
-    let Made::Whole(f) = m else {
-        return true;
-    };
-    let v = figures::greatest_of(starts, latencies, f.anchors, f.hyperperiod);
-    let Greatest::Latency(top) = v else {
-        return false;
-    };
-    if f.anchors <= i {
-        return true;
+    let made = maker::make_table(c, p, starts, latencies);
+    let f = figures_in(made);
+    let greatest = figures::greatest_of(starts, latencies, f.anchors, f.hyperperiod);
+    let start = entry(starts, i);
+    let latency = entry(latencies, i);
+    let delay = timing::delay(c, Tick(start));
+    let age = timing::age(c, Tick(last_before(start, latency)));
+    Peak {
+        made,
+        greatest,
+        start,
+        latency,
+        delay,
+        age,
     }
-    if latencies[i] != top {
-        return true;
-    }
-    reached_at(c, starts[i], top)
 }

@@ -3,3 +3,4 @@ pub mod Partitions
 pub mod Selections
 pub mod CanonicalAnchors
 pub mod CutFree
+pub mod FewAnchors

@@ -5,3 +5,4 @@ pub mod Standing
 pub mod WarmLaws
 pub mod WarmRanges
 pub mod Period
+pub mod Spans
