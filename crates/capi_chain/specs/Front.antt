@@ -27,20 +27,29 @@ places-inside n places = go (eqb (n % 3) 0) (leb places (n / 3)) refl
     go true false e = omega arith
     go false y e = omega arith
 
+-- places that are not 0 are the ones given
+pub places-given : (n places : ℕ) → 1 ≤ placesOf n places → placesOf n places ≡ places
+unfolding placesOf
+places-given n places = go (eqb (n % 3) 0 && leb places (n / 3))
+  where
+    go : (x : Bool) → 1 ≤ cond x places 0 → cond x places 0 ≡ places
+    go true h = refl
+    go false h = absurd (omega arith)
+
 module _ (list : List ℕ) (places : ℕ) where
   abbrev p : ℕ
   p = placesOf (length list) places
 
   -- the chain's task is the one at its place in the list
-  chain-at : (i : ℕ) → i < 12 → at (chainFrom list places .tasks) i ≡ taskAt list i
+  pub chain-at : (i : ℕ) → i < 12 → at (chainFrom list places .tasks) i ≡ taskAt list i
   unfolding chainFrom
   chain-at i h = entries-at (taskAt list) zeroTask 12 i h
 
-  chain-count : chainFrom list places .places ≡ p
+  pub chain-count : chainFrom list places .places ≡ p
   unfolding chainFrom
   chain-count = refl
 
-  chain-twelve : length (chainFrom list places .tasks) ≡ 12
+  pub chain-twelve : length (chainFrom list places .tasks) ≡ 12
   unfolding chainFrom
   chain-twelve = entries-length (taskAt list) 0 12
 

@@ -168,7 +168,7 @@ count-fits long n = go (eqb (long % 4) 0) (leb n (long / 4)) refl
     go true false e h = omega arith
     go false y e h = omega arith
 
-places-fit : (long p : ℕ) → placesFrom long p ≡ p → p ≤ long
+pub places-fit : (long p : ℕ) → placesFrom long p ≡ p → p ≤ long
 unfolding placesFrom
 places-fit long p = go (leb p long) refl
   where
@@ -229,7 +229,7 @@ count-is long n = go (eqb (long % 4) 0 && leb n (long / 4))
     go true h = refl
     go false h = absurd (omega arith)
 
-places-are : (long p : ℕ) → 1 ≤ placesFrom long p → placesFrom long p ≡ p
+pub places-are : (long p : ℕ) → 1 ≤ placesFrom long p → placesFrom long p ≡ p
 unfolding placesFrom
 places-are long p = go (leb p long)
   where

@@ -95,7 +95,7 @@ range-fits l ok p h g s =
     omega (arith, warm-range l ok p g, div-mul-le-self h (at l p .period), w .period-max, w .duration-max)
 
 -- an answer tells its number, place and figures
-tells-so : (c : Chain) (p a : ℕ) (v : Verdict) (r : Made) → r ≡ madeAfter c p a v → told r ≡ toldAfter c p a v
+pub tells-so : (c : Chain) (p a : ℕ) (v : Verdict) (r : Made) → r ≡ madeAfter c p a v → told r ≡ toldAfter c p a v
 unfolding madeAfter toldAfter
 tells-so c p a (verdict.Refused x) r e = ap told e
 tells-so c p a (verdict.Accepted h) r e = ap told e ∙ go (leb (length (anchorsOf (tasksOf c) (p - 1) h)) a)

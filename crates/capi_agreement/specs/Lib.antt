@@ -1,0 +1,4 @@
+pub mod Contracts
+pub mod Codes
+pub mod TablesAndWalks
+pub mod NoChain

@@ -1,0 +1,188 @@
+-- Demand 3 of the calls for C, from their own contracts: from code 0 of mo_make_table, mo_read_table gives at every tick what mo_delay gives (`table-is-walk-for-c`),
+-- two cuts leave the same entries below g (`cuts-agree-for-c`), and mo_greatest's latency is the greatest delay of mo_delay and 1 + the greatest age of mo_age
+-- (`greatest-for-c`). When mo_make_table answers 0 is `completes-for-c`.
+use Prim.Native.Nat.{ℕ, suc, _+_, _*_, _/_, _≤_, _<_}
+use native.Mathlib.Omega.{arith}
+use mathlib.Core.Path.{_≡_, refl, sym, ap, _∙_}
+use mathlib.Core.List.{List, [], _∷_}
+use lib.ListN.{length, getD}
+use lib.Seq.{getD-take}
+use borrow.Author.Tests.{le-leb}
+use Rattle.chain.specs.declared.Chain.{Chain}
+use Rattle.chain.specs.declared.Verdict.the-variants as verdict
+use Rattle.chain.specs.Chains.{tasksOf, at, zeroTask}
+use Rattle.chain.specs.Checks.{verdictOf}
+use Rattle.chain.proofs.CheckLaws.{Facts, accepted}
+use Rattle.timing.specs.WarmUp.{warmTick}
+use Rattle.timing.specs.Delay.{delayAt, firstAged, ageAt}
+use Rattle.timing.specs.Answers.{upperTick, delayOf, ageOf}
+use Rattle.timing.specs.Spans.{span-answered}
+use Rattle.table.specs.Reading.{reading, wordOf}
+use Rattle.table.specs.Words.{word-small}
+use Rattle.figures.specs.Figures.{greatestOf}
+use Rattle.maker.specs.declared.Figures.{Figures}
+use Rattle.maker.specs.declared.Made.the-variants as made
+use Rattle.maker.specs.Making.{told, toldAfter, judged, madeOf, Makes}
+use Rattle.maker.proofs.Exits.{tells-so}
+use Rattle.agreement.specs.Agreement.{SameAnchors, SameGreatest, held, table-is-walk, cuts-agree, greatest-is-delay-and-age}
+use Rattle.agreement.specs.EveryChain.{Asked, room-enough}
+use Rattle.capi_chain.specs.FlatChain.{taskAt, chainFrom}
+use Rattle.capi_chain.specs.Front.{chain-at, chain-twelve, places-inside, chain-count, places-given}
+use Rattle.capi_timing.specs.Calls.{spanCode, spanTicks}
+use Rattle.capi_figures.specs.Calls.{greatestNumbers}
+use Rattle.capi_maker.specs.Calls.{madeCode, madeNumbers, GivesTable}
+use Rattle.capi_agreement.specs.Contracts.{GivesCheck, GivesDelay, GivesAge, GivesWord, GivesGreatest}
+use Rattle.capi_agreement.specs.Codes.{check-zero, span-zero, made-zero}
+
+-- figures of mo_make_table: g, the warm-up tick and h.
+abbrev pub count : List ℕ → ℕ
+count figures = getD figures 0 0
+
+abbrev pub tick : List ℕ → ℕ
+tick figures = getD figures 1 0
+
+abbrev pub hyper : List ℕ → ℕ
+hyper figures = getD figures 2 0
+
+-- "At every tick from the warm-up tick to MO_UPPER_TICK it gives the delay that mo_delay gives": neither refuses, and the word is the delay.
+pub record SameWord (code delay word : ℕ) : Type 0 where
+  pub walked : code ≡ 0
+  pub read : word ≡ delay
+  pub small : word < 4294967296
+
+-- Two cuts leave the same number of anchors and, one by one, the same entries.
+pub record SameEntries (starts latencies starts″ latencies″ figures figures″ : List ℕ) : Type 0 where
+  pub number : count figures ≡ count figures″
+  pub start : (i : ℕ) → i < count figures → getD starts i 0 ≡ getD starts″ i 0
+  pub latency : (i : ℕ) → i < count figures → getD latencies i 0 ≡ getD latencies″ i 0
+
+-- The greatest that mo_delay gives and 1 + the greatest that mo_age gives, at ticks that they do not refuse: no tick has more, and one has it.
+pub record GreatestForC (tasks : List ℕ) (places latency : ℕ) : Type 0 where
+  pub delay-within : (t code delay : ℕ) → GivesDelay tasks places t code delay → code ≡ 0 → delay ≤ latency
+  pub delay-at : ℕ
+  pub delay-meets : (code delay : ℕ) → GivesDelay tasks places delay-at code delay → (code ≡ 0) × (delay ≡ latency)
+  pub age-within : (z code age : ℕ) → GivesAge tasks places z code age → code ≡ 0 → 1 + age ≤ latency
+  pub age-at : ℕ
+  pub age-meets : (code age : ℕ) → GivesAge tasks places age-at code age → (code ≡ 0) × (1 + age ≡ latency)
+
+module _ (tasks : List ℕ) (places : ℕ) where
+  abbrev c : Chain
+  c = chainFrom tasks places
+
+  twelve : length (c .tasks) ≡ 12
+  twelve = chain-twelve tasks places
+
+  -- a making for C with code 0 is a making with a whole table
+  record Done (p : ℕ) (s v s′ v′ figures : List ℕ) : Type 0 where
+    given : Figures
+    makes : Makes c p s v s′ v′ (made.Whole given)
+    anchors : count figures ≡ given .anchors
+    from : tick figures ≡ given .tick .0
+    hyperperiod : hyper figures ≡ given .hyperperiod
+
+  module _ (p : ℕ) (s v : List ℕ) (code : ℕ) (s′ v′ figures : List ℕ) (table : GivesTable c p s v code s′ v′ figures) (fine : code ≡ 0) where
+    done : Done p s v s′ v′ figures
+    done =
+        let w = made-zero c p (length s) (length v) (sym (table .answers) ∙ fine) in
+        let n = table .gives-figures ∙ ap madeNumbers (w .made) in
+        record {
+          given = w .figures;
+          makes = record { answer = sym (w .made); tells = tells-so c p (length s) (judged c p (length s) (length v)) (made.Whole (w .figures)) (sym (w .made)); leaves-starts = table .leaves-starts; leaves-latencies = table .leaves-latencies };
+          anchors = ap (λ (l : List ℕ). getD l 0 0) n;
+          from = ap (λ (l : List ℕ). getD l 1 0) n;
+          hyperperiod = ap (λ (l : List ℕ). getD l 2 0) n;
+        }
+
+    -- what is read with the numbers that C got
+    read-given : (t : ℕ) → reading s′ v′ (count figures) (hyper figures) t ≡ reading s′ v′ (done .given .anchors) (done .given .hyperperiod) t
+    read-given t = ap (λ (x : ℕ). reading s′ v′ x (hyper figures) t) (done .anchors) ∙ ap (λ (x : ℕ). reading s′ v′ (done .given .anchors) x t) (done .hyperperiod)
+
+    pub table-is-walk-for-c : (t : ℕ) → tick figures ≤ t → t ≤ upperTick → (word : ℕ) → GivesWord s′ v′ (count figures) (hyper figures) t word
+        → (code′ delay : ℕ) → GivesDelay tasks places t code′ delay → SameWord code′ delay word
+    table-is-walk-for-c t low high word reads code′ delay walks =
+        let a = table-is-walk c twelve p s v s′ v′ (done .given) (done .makes) t (omega (arith, done .from)) high in
+        let r = read-given t ∙ a .read in
+        let d : word ≡ a .delay = reads ∙ ap wordOf r in
+        record {
+          walked = walks .0 ∙ ap spanCode (a .walked);
+          read = d ∙ sym (walks .1 ∙ ap spanTicks (a .walked));
+          small = omega (arith, word-small s′ v′ (count figures) (hyper figures) t (a .delay) r);
+        }
+
+    agreed : SameGreatest c s′ v′ (done .given)
+    agreed = greatest-is-delay-and-age c twelve p s v s′ v′ (done .given) (done .makes)
+
+    greatest-numbers : (code′ latency : ℕ) → GivesGreatest s′ v′ (count figures) (hyper figures) code′ latency → (code′ ∷ latency ∷ []) ≡ 0 ∷ agreed .latency ∷ []
+    greatest-numbers code′ latency g =
+        g ∙ ap (λ (x : ℕ). greatestNumbers (greatestOf s′ v′ x (hyper figures))) (done .anchors)
+        ∙ ap (λ (x : ℕ). greatestNumbers (greatestOf s′ v′ (done .given .anchors) x)) (done .hyperperiod) ∙ ap greatestNumbers (agreed .answered)
+
+    delays-within : (t code′ delay : ℕ) → GivesDelay tasks places t code′ delay → code′ ≡ 0 → delay ≤ agreed .latency
+    delays-within t code′ delay g e =
+        let z = span-zero c (warmTick (tasksOf c)) t (delayAt (tasksOf c) t) (sym (g .0) ∙ e) in
+        let k = span-answered (verdictOf c) (warmTick (tasksOf c)) t (delayAt (tasksOf c) t) _ z in
+        omega (arith, g .1, k .is, agreed .greatest-delay .bound t (omega (arith, k .early, held c twelve p s v s′ v′ (done .given) (done .makes) .tick)) (k .late))
+
+    ages-within : (z code′ age : ℕ) → GivesAge tasks places z code′ age → code′ ≡ 0 → 1 + age ≤ agreed .latency
+    ages-within z code′ age g e =
+        let q = span-zero c (firstAged (tasksOf c)) z (ageAt (tasksOf c) z) (sym (g .0) ∙ e) in
+        let k = span-answered (verdictOf c) (firstAged (tasksOf c)) z (ageAt (tasksOf c) z) _ q in
+        omega (arith, g .1, k .is, agreed .greatest-age .bound z (k .early) (k .late))
+
+    pub greatest-for-c : (code′ latency : ℕ) → GivesGreatest s′ v′ (count figures) (hyper figures) code′ latency → (code′ ≡ 0) × GreatestForC tasks places latency
+    greatest-for-c code′ latency g =
+        let n = greatest-numbers code′ latency g in
+        let top : latency ≡ agreed .latency = ap (λ (l : List ℕ). getD l 1 0) n in
+        let peak = agreed .greatest-delay in
+        let old = agreed .greatest-age in
+        let w = agreed .walked (peak .at) (peak .from) (peak .upto) in
+        let o = agreed .aged (old .at) (old .from) (old .upto) in (
+          ap (λ (l : List ℕ). getD l 0 0) n,
+          record {
+            delay-within = λ t k delay q e. omega (arith, delays-within t k delay q e);
+            delay-at = peak .at;
+            delay-meets = λ k delay q. (q .0 ∙ ap spanCode w, q .1 ∙ ap spanTicks w ∙ peak .meets ∙ sym top);
+            age-within = λ z k age q e. omega (arith, ages-within z k age q e);
+            age-at = old .at;
+            age-meets = λ k age q. (q .0 ∙ ap spanCode o, omega (arith, q .1 ∙ ap spanTicks o, old .meets));
+          },
+        )
+
+  pub cuts-agree-for-c : (p q : ℕ) (s v : List ℕ) (code : ℕ) (s′ v′ figures : List ℕ) → GivesTable c p s v code s′ v′ figures → code ≡ 0
+      → (x y : List ℕ) (code″ : ℕ) (x′ y′ figures″ : List ℕ) → GivesTable c q x y code″ x′ y′ figures″ → code″ ≡ 0
+      → SameEntries s′ v′ x′ y′ figures figures″
+  cuts-agree-for-c p q s v code s′ v′ figures table fine x y code″ x′ y′ figures″ other too =
+      let d = done p s v code s′ v′ figures table fine in
+      let e = done q x y code″ x′ y′ figures″ other too in
+      let a = cuts-agree c twelve p q s v s′ v′ (d .given) (d .makes) x y x′ y′ (e .given) (e .makes) in
+      record {
+        number = d .anchors ∙ a .number ∙ sym (e .anchors);
+        start = λ i h. a .start i (omega (arith, d .anchors));
+        latency = λ i h. a .latency i (omega (arith, d .anchors));
+      }
+
+  -- Of a chain that mo_check accepts, mo_make_table answers 0 at each place p, from lists of equal length of at least h / T entries, T being the period at any place: tasks[3 * i], i from 0.
+  module _ (code h : ℕ) (checks : GivesCheck tasks places code h) (fine : code ≡ 0) where
+    is-accepted : verdictOf c ≡ verdict.Accepted h
+    is-accepted = check-zero c (sym (checks .0) ∙ fine) ∙ ap verdict.Accepted (sym (checks .1))
+
+    facts : Facts c h
+    facts = accepted c h twelve is-accepted
+
+    places-are : c .places ≡ places
+    places-are = chain-count tasks places ∙ places-given (length tasks) places (omega (arith, facts .passes .counted, facts .passes .sound .some, chain-count tasks places))
+
+    period-at : (i : ℕ) → i < places → at (tasksOf c) i .period ≡ getD tasks (3 * i) 0
+    unfolding taskAt
+    period-at i l =
+        let n : c .places ≤ 12 = omega (arith, facts .passes .counted, facts .passes .sound .few) in
+        let k = places-inside (length tasks) places in
+        let e = getD-take (c .places) (c .tasks) i zeroTask (omega (arith, places-are)) ∙ chain-at tasks places i (omega (arith, places-are)) in
+        rw (e, le-leb (3 * i + 3) (length tasks) (omega (arith, places-are, chain-count tasks places)))
+
+    pub completes-for-c : (p i : ℕ) (s v : List ℕ) → 1 ≤ p → p ≤ places → length s ≡ length v → i < places → h / getD tasks (3 * i) 0 ≤ length s
+        → (code′ : ℕ) (s′ v′ figures : List ℕ) → GivesTable c p s v code′ s′ v′ figures → code′ ≡ 0
+    completes-for-c p i s v low high equal l room code′ s′ v′ figures table =
+        let asked : Asked c p h (length s) (length v) = record { accepted = is-accepted; low = low; high = omega (arith, places-are); equal = equal } in
+        let enough : h / at (tasksOf c) i .period ≤ length s = rw (period-at i l) room in
+        table .answers ∙ ap madeCode (room-enough c twelve p h (length s) (length v) asked i (omega (arith, places-are)) enough)
