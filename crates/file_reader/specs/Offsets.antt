@@ -1,4 +1,4 @@
--- A file is refused with 1 to 6, at an offset of at most 608: the longest file has 608 bytes.
+-- A file is accepted, or refused with 1 to 6 at an offset of at most 608 and with a schedule of zeros (`read-as`). The longest file has 608 bytes.
 use Prim.Native.Nat.{ℕ, zero, suc, _+_, _*_, _≤_}
 use native.Mathlib.Omega.{arith}
 use native.Mathlib.Decide.{decLt}
@@ -10,13 +10,14 @@ use Rattle.refusal.specs.declared.Refusal.{Refusal}
 use Rattle.schedule.specs.declared.NumberedTask.{NumberedTask}
 use Rattle.schedule.specs.Schedules.{numberOf}
 use Rattle.file_reader.specs.declared.Record.{Record}
+use Rattle.file_reader.specs.declared.FileRead.{FileRead}
 use Rattle.file_reader.specs.declared.Record.the-variants.{Task, Chain, End, Fault}
-use Rattle.file_reader.specs.Reading.{chainField, recordOf, afterRecord, readFrom, readFile}
+use Rattle.file_reader.specs.Reading.{chainField, recordOf, refusedFile, acceptedFile, afterRecord, readFrom, readFile}
 use Rattle.file_reader.specs.Records.{Tells, tells, length-numbers}
 
-pub record SmallRefusal (r : Refusal) : Type 0 where
-  pub number : r .number ≤ 6
-  pub place : r .place ≤ 608
+pub data ReadAs (r : FileRead) : Type 0 where
+  accepts : (ts : List NumberedTask) (ch : List ℕ) → r ≡ acceptedFile ts ch → ReadAs r
+  refuses : (number place : ℕ) → 1 ≤ number → number ≤ 6 → place ≤ 608 → r ≡ refusedFile number place → ReadAs r
 
 -- where reading can stand after so many tasks and places
 record Near (tasks places at : ℕ) : Type 0 where
@@ -24,15 +25,15 @@ record Near (tasks places at : ℕ) : Type 0 where
   tasks-only : places ≡ 0 → at ≤ 18 * tasks
   with-chain : at ≤ 18 * tasks + 28
 
-from-small : (n : ℕ) (ts : List NumberedTask) (ch : List ℕ) (at : ℕ) (l : List ℕ) → Near (length ts) (length ch) at → SmallRefusal (readFrom n ts ch at l .refusal)
+from-as : (n : ℕ) (ts : List NumberedTask) (ch : List ℕ) (at : ℕ) (l : List ℕ) → Near (length ts) (length ch) at → ReadAs (readFrom n ts ch at l)
 unfolding readFrom afterRecord
-from-small zero ts ch at l near = record { number = omega arith; place = omega (arith, near .with-chain, near .few) }
-from-small (suc n) ts ch at l near =
-    go (recordOf (map numberOf ts) (length ch) l) (tells (map numberOf ts) (length ch) l (recordOf (map numberOf ts) (length ch) l) refl) (λ ts′ ch′ at′ l′. from-small n ts′ ch′ at′ l′)
+from-as zero ts ch at l near = refuses 1 at (omega arith) (omega arith) (omega (arith, near .with-chain, near .few)) refl
+from-as (suc n) ts ch at l near =
+    go (recordOf (map numberOf ts) (length ch) l) (tells (map numberOf ts) (length ch) l (recordOf (map numberOf ts) (length ch) l) refl) (λ ts′ ch′ at′ l′. from-as n ts′ ch′ at′ l′)
   where
     go : (r : Record) → Tells (map numberOf ts) (length ch) l r
-        → ((ts′ : List NumberedTask) (ch′ : List ℕ) (at′ : ℕ) (l′ : List ℕ) → Near (length ts′) (length ch′) at′ → SmallRefusal (readFrom n ts′ ch′ at′ l′ .refusal))
-        → SmallRefusal (afterRecord (readFrom n) ts ch at l r .refusal)
+        → ((ts′ : List NumberedTask) (ch′ : List ℕ) (at′ : ℕ) (l′ : List ℕ) → Near (length ts′) (length ch′) at′ → ReadAs (readFrom n ts′ ch′ at′ l′))
+        → ReadAs (afterRecord (readFrom n) ts ch at l r)
     go (Task t) i on =
         let m : length (ts ++ (t ∷ [])) ≡ length ts + 1 = length-append ts (t ∷ []) in
         let a : at ≤ 18 * length ts = near .tasks-only (i .no-chain) in
@@ -42,10 +43,22 @@ from-small (suc n) ts ch at l near =
         let a : at ≤ 18 * length ts = near .tasks-only (i .no-chain) in
         on ts (chainField l p) (at + (4 + 2 * p)) (drop (4 + 2 * p) l) (record { few = near .few; tasks-only = λ z. absurd (omega (arith, i .some)); with-chain = omega (arith, i .few) })
     go End i on = elim (decLt 4 (length l)) [
-      | yes h ↦ rw (lt-ltb 4 (length l) h) (record { number = omega arith; place = omega (arith, near .with-chain, near .few) })
-      | no h ↦ rw (le-ltb 4 (length l) (omega arith)) (record { number = omega arith; place = omega arith })
+      | yes h ↦ rw (lt-ltb 4 (length l) h) (refuses 4 (at + 4) (omega arith) (omega arith) (omega (arith, near .with-chain, near .few)) refl)
+      | no h ↦ rw (le-ltb 4 (length l) (omega arith)) (accepts ts ch refl)
     ]
-    go (Fault k) i on = record { number = i .1; place = omega (arith, near .with-chain, near .few) }
+    go (Fault k) i on = refuses k at (i .0) (i .1) (omega (arith, near .with-chain, near .few)) refl
+
+pub read-as : (l : List ℕ) → ReadAs (readFile l)
+read-as l = from-as (length l) [] [] 0 l (record { few = omega arith; tasks-only = λ z. omega arith; with-chain = omega arith })
+
+-- Either way the refusal's number and place are small.
+pub record SmallRefusal (r : Refusal) : Type 0 where
+  pub number : r .number ≤ 6
+  pub place : r .place ≤ 608
 
 pub read-small : (l : List ℕ) → SmallRefusal (readFile l .refusal)
-read-small l = from-small (length l) [] [] 0 l (record { few = omega arith; tasks-only = λ z. omega arith; with-chain = omega arith })
+read-small l = go (readFile l) (read-as l)
+  where
+    go : (r : FileRead) → ReadAs r → SmallRefusal (r .refusal)
+    go r (accepts ts ch e) = rw e (record { number = omega arith; place = omega arith })
+    go r (refuses number place some few near e) = rw e (record { number = few; place = near })

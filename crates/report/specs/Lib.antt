@@ -3,4 +3,5 @@ pub mod LongestPlace
 pub mod Widths
 pub mod Lent
 pub mod Ties
+pub mod Refusals
 pub mod Survey

@@ -29,12 +29,12 @@ abbrev pub cutText : ℕ → Chain → ℕ → List ℕ
 cutText slots c p = madeText (madeOf c p slots slots) (writtenOf c p slots slots)
 
 -- the text by what making judged
-abbrev judgedText : ℕ → Chain → ℕ → Verdict → List ℕ
+abbrev pub judgedText : ℕ → Chain → ℕ → Verdict → List ℕ
 judgedText slots c p v = madeText (madeAfter c p slots v) (writtenAfter c p v)
 
 module _ (c : Chain) (twelve : length (c .tasks) ≡ 12) (slots : ℕ) where
   -- a place inside is not refused for itself
-  inside : (p : ℕ) → 1 ≤ p → p ≤ c .places → judged c p slots slots ≡ verdictOf c
+  pub inside : (p : ℕ) → 1 ≤ p → p ≤ c .places → judged c p slots slots ≡ verdictOf c
   unfolding judged
   inside p low high = go (verdictOf c)
     where

@@ -3,3 +3,4 @@ pub mod Right
 pub mod ReadAfterWrite
 pub mod WriteAfterRead
 pub mod RoundTrips
+pub mod RightChain

@@ -139,6 +139,9 @@ module _ (b : List ℕ) (is : Bytes b) (fine : readFile b .refusal .number ≡ 0
   read-counts =
       (omega (arith, ap (λ (r : FileRead). r .schedule .count) (ends .is), ends .right .few), omega (arith, ap (λ (r : FileRead). r .schedule .places) (ends .is), ends .right .few-places))
 
+  pub read-placed : 1 ≤ readFile b .schedule .places
+  read-placed = omega (arith, ap (λ (r : FileRead). r .schedule .places) (ends .is), ends .right .placed)
+
   -- and of no other.
   pub one-schedule : (s : Schedule) (lent n : ℕ) → Arrays s → writtenOf s lent ≡ written.Bytes n → fileBytes s ≡ b → cleared s ≡ readFile b .schedule
   one-schedule s lent n a w e = ap (λ (r : FileRead). r .schedule) (sym (read-after-write s lent n a w) ∙ ap readFile e)
