@@ -9,11 +9,20 @@ use Rattle.chainreport.proofs.main.Tie as tie
 buffer-requires : tie.Need-buffer-requires
 buffer-requires c κs = search needs
 
-slice-aggregate-read-full : tie.Need-slice-aggregate-read-full
-slice-aggregate-read-full c = search needs
+slice-aggregate-read-input : tie.Need-slice-aggregate-read-input
+slice-aggregate-read-input c = search needs
 
-read-full-requires : tie.Need-read-full-requires
-read-full-requires c κs = search needs
+read-input-requires : tie.Need-read-input-requires
+read-input-requires c κs = search needs
+
+slice-aggregate-fail : tie.Need-slice-aggregate-fail
+slice-aggregate-fail c = search needs
+
+fail-requires : tie.Need-fail-requires
+fail-requires c κs = search needs
+
+returns : tie.Need-returns
+returns c = search needs
 
 array-share-prefix-input : tie.Need-array-share-prefix-input
 array-share-prefix-input c = search needs
@@ -38,16 +47,28 @@ slice-aggregate-write-all c =
 write-all-requires : tie.Need-write-all-requires
 write-all-requires c κs = search needs
 
-returns : tie.Need-returns
-returns c = search needs
+slice-aggregate-fail-2 : tie.Need-slice-aggregate-fail-2
+slice-aggregate-fail-2 c = search needs
+
+fail-requires-2 : tie.Need-fail-requires-2
+fail-requires-2 c κs = search needs
+
+returns-2 : tie.Need-returns-2
+returns-2 c = search needs
+
+returns-3 : tie.Need-returns-3
+returns-3 c = search needs
 
 pub main-spec : {M : Type 1} → statement M
 main-spec =
     tie.close
     (tie.spec
     buffer-requires
-    slice-aggregate-read-full
-    read-full-requires
+    slice-aggregate-read-input
+    read-input-requires
+    slice-aggregate-fail
+    fail-requires
+    returns
     array-share-prefix-input
     slice-aggregate-report
     slice-aggregate-report-2
@@ -55,4 +76,7 @@ main-spec =
     array-share-prefix-out
     slice-aggregate-write-all
     write-all-requires
-    returns)
+    slice-aggregate-fail-2
+    fail-requires-2
+    returns-2
+    returns-3)
