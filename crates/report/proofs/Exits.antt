@@ -22,7 +22,8 @@ use Rattle.maker.specs.Making.{madeOf, writtenAfter, writtenOf, Makes}
 use Rattle.maker.proofs.Lists.{sets-overlay}
 use Rattle.agreement.specs.MadeTable.{Completed, done, starts-length, latencies-length, made-anchors, made-well-formed}
 use Rattle.text.specs.Text.{Puts}
-use Rattle.report.specs.Report.{longestPlace, refusedText, tableText, madeText, chainText, fileText, reportOf, longestText, Reports}
+use Rattle.table_text.specs.TableText.{refusedText, tableText, longestText}
+use Rattle.report.specs.Report.{longestPlace, madeText, chainText, fileText, reportOf, Reports}
 
 module _ (c : Chain) (twelve : length (c .tasks) ≡ 12) (p : ℕ) (s v s′ v′ : List ℕ) (m : Made) (long : length s ≡ 1024) (wide : length v ≡ 1024)
     (place : p ≡ longestPlace (tasksOf c)) (makes : Makes c p s v s′ v′ m) where

@@ -1,4 +1,2 @@
-pub mod WellFigures
-pub mod Lines
 pub mod Longest
 pub mod Exits

@@ -1,6 +1,6 @@
 pub mod Report
 pub mod LongestPlace
-pub mod Widths
+pub mod Room
 pub mod Lent
 pub mod Ties
 pub mod Refusals

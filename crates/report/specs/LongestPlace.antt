@@ -82,3 +82,11 @@ longest-place l h =
       longest = λ i g. rw (z, f .1) (none-longer l i g);
       lowest = λ i g. rw (z, f .1) (f .2 i (omega arith));
     }
+
+-- The period there is the longest.
+pub longest-is : (l : List Task) → 1 ≤ length l → at l (longestPlace l - 1) .period ≡ longestPeriod l
+unfolding longestPlace
+longest-is l h =
+    let q = positionOf (longestPeriod l) (periods l) in
+    let z : q + 1 - 1 ≡ q = omega arith in
+    rw z (first l h .1)

@@ -25,7 +25,8 @@ use Rattle.partition.specs.Partitions.{anchorsOf}
 use Rattle.maker.specs.declared.Figures.{Figures}
 use Rattle.maker.specs.declared.Made.the-variants.{Whole, Short}
 use Rattle.maker.specs.Making.{judged, figuresOf, madeAfter, writtenAfter}
-use Rattle.report.specs.Report.{longestPlace, refusedText, tableText, madeText, chainText, fileText, reportOf}
+use Rattle.table_text.specs.TableText.{refusedText, tableText}
+use Rattle.report.specs.Report.{longestPlace, madeText, chainText, fileText, reportOf}
 use Rattle.report.specs.LongestPlace.{longest-place}
 use Rattle.report.specs.Ties.{judgedText, inside}
 

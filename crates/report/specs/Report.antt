@@ -2,10 +2,9 @@
 use Prim.Native.Nat.{ℕ, _+_, _≤_, max}
 use mathlib.Core.Path.{_≡_}
 use mathlib.Core.Bool.{cond}
-use mathlib.Core.List.{List, [], _∷_, _++_, map}
+use mathlib.Core.List.{List, [], _∷_, map}
 use lib.Dec.{eqb}
 use lib.ListN.{length}
-use Rattle.refusal.specs.declared.Refusal.{Refusal}
 use Rattle.refusal.specs.Refusals.{refusal}
 use Rattle.task.specs.declared.Task.{Task}
 use Rattle.chain.specs.declared.Chain.{Chain}
@@ -14,13 +13,10 @@ use Rattle.schedule.specs.Schedules.{positionOf, chainOf}
 use Rattle.file_reader.specs.declared.FileRead.{FileRead}
 use Rattle.file_reader.specs.Reading.{readFile}
 use Rattle.table.specs.Anchors.{Anchor}
-use Rattle.table.specs.Figures.{greatest, low}
-use Rattle.figures.specs.Figures.{delaySum}
-use Rattle.maker.specs.declared.Figures.{Figures}
 use Rattle.maker.specs.declared.Made.{Made}
 use Rattle.maker.specs.declared.Made.the-variants.{Whole, Short, Refused}
 use Rattle.maker.specs.Making.{madeOf, writtenOf, overlay}
-use Rattle.text.specs.Text.{ascii, line}
+use Rattle.table_text.specs.TableText.{refusedText, tableText, longestText}
 
 -- The longest period of a chain,
 unfoldable pub longestPeriod : List Task → ℕ
@@ -30,27 +26,6 @@ longestPeriod (t ∷ l) = max (t .period) (longestPeriod l)
 -- and its place, counted from 1; the lowest place among equals.
 unfoldable pub longestPlace : List Task → ℕ
 longestPlace l = positionOf (longestPeriod l) (map (λ (t : Task). t .period) l) + 1
-
--- A refusal prints one line: number and place.
-unfoldable pub refusedText : Refusal → List ℕ
-refusedText r = line (ascii "refused") (r .number ∷ r .place ∷ [])
-
--- Each anchor: start, latency.
-unfoldable pub anchorLines : List Anchor → List ℕ
-anchorLines [] = []
-anchorLines (a ∷ l) = line (ascii "a") (a .start ∷ a .latency ∷ []) ++ anchorLines l
-
--- Warm-up tick, H, g;
-unfoldable pub headText : Figures → List ℕ
-headText f = line (ascii "warm") (f .tick .0 ∷ []) ++ (line (ascii "hyper") (f .hyperperiod ∷ []) ++ line (ascii "anchors") (f .anchors ∷ []))
-
--- greatest, low, mean;
-unfoldable pub figuresText : ℕ → List Anchor → List ℕ
-figuresText H l = line (ascii "max") (greatest l ∷ []) ++ (line (ascii "low") (low H l ∷ []) ++ line (ascii "mean") (delaySum H l ∷ H ∷ []))
-
--- these around the anchors, and walked.
-unfoldable pub tableText : Figures → List Anchor → List ℕ
-tableText f l = headText f ++ (anchorLines l ++ (figuresText (f .hyperperiod) l ++ line (ascii "walked") (f .walked ∷ [])))
 
 -- What making answered. Where the slots do not hold all anchors the one line is that of 11, which has no place.
 unfoldable pub madeText : Made → List Anchor → List ℕ
@@ -69,10 +44,6 @@ fileText r = cond (eqb (r .refusal .number) 0) (chainText 1024 (chainOf (r .sche
 -- The whole text for the bytes of a file.
 abbrev pub reportOf : List ℕ → List ℕ
 reportOf bytes = fileText (readFile bytes)
-
--- No text is longer: `report` promises it. Each of 1,024 lines of an anchor has at most 22 bytes.
-abbrev pub longestText : ℕ
-longestText = 23000
 
 -- What `report` answers and leaves: the answer is the text's length; the lent bytes hold the text, as much of it as fits, and past it what was there.
 pub record Reports (bytes old new : List ℕ) (answer : ℕ) : Type 0 where

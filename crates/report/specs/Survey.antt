@@ -21,7 +21,8 @@ use Rattle.figures.specs.Ticks.{total}
 use Rattle.figures.specs.Figures.{delaySum}
 use Rattle.maker.specs.Making.{judged, madeAfter, writtenAfter}
 use Rattle.text.specs.Text.{ascii, lastDigits, decimal, fields, line}
-use Rattle.report.specs.Report.{longestPeriod, longestPlace, anchorLines, headText, figuresText, tableText, madeText, chainText, fileText, reportOf}
+use Rattle.table_text.specs.TableText.{anchorLines, headText, figuresText, tableText}
+use Rattle.report.specs.Report.{longestPeriod, longestPlace, madeText, chainText, fileText, reportOf}
 
 -- Chain A, tasks 1 and 2 in a file of 48 bytes.
 abbrev pub fileA : List ℕ

@@ -6,11 +6,11 @@ use borrow.Author.Needs.{needs}
 use Rattle.table.specs.Anchors.{anchors}
 use Rattle.text.specs.Text.{ascii}
 use Rattle.text.specs.Putting.{puts-length}
-use Rattle.report.specs.Report.{anchorLines}
-use Rattle.report.proofs.Lines.{Left, left-all, anchor-turn, anchor-end}
-use Rattle.report.specs.Widths.{anchor-short}
-use Rattle.report.proofs.put_anchors.Statement.{statement}
-use Rattle.report.proofs.put_anchors.Tie as tie
+use Rattle.table_text.specs.TableText.{anchorLines}
+use Rattle.table_text.proofs.Lines.{Left, left-all, anchor-turn, anchor-end}
+use Rattle.table_text.specs.Widths.{anchor-short}
+use Rattle.table_text.proofs.put_anchors.Statement.{statement}
+use Rattle.table_text.proofs.put_anchors.Tie as tie
 
 abbrev Inv-loop : tie.InvT-loop
 Inv-loop out₀ at starts latencies g end₀ i₀ t8 out end i =

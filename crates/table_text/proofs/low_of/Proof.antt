@@ -1,7 +1,7 @@
-use Rattle.report.proofs.WellFigures.{low-is, low-told}
+use Rattle.table_text.proofs.WellFigures.{low-is, low-told}
 use borrow.Author.Needs.{needs}
-use Rattle.report.proofs.low_of.Statement.{statement}
-use Rattle.report.proofs.low_of.Tie as tie
+use Rattle.table_text.proofs.low_of.Statement.{statement}
+use Rattle.table_text.proofs.low_of.Tie as tie
 
 low-of-requires : tie.Need-low-of-requires
 low-of-requires c κs = search needs

@@ -1,9 +1,9 @@
 use native.Mathlib.Omega.{arith}
 use Rattle.text.specs.Putting.{puts-two}
-use Rattle.report.specs.Report.{headText}
+use Rattle.table_text.specs.TableText.{headText}
 use borrow.Author.Needs.{needs}
-use Rattle.report.proofs.put_head.Statement.{statement}
-use Rattle.report.proofs.put_head.Tie as tie
+use Rattle.table_text.proofs.put_head.Statement.{statement}
+use Rattle.table_text.proofs.put_head.Tie as tie
 
 slice-aggregate-put-line : tie.Need-slice-aggregate-put-line
 slice-aggregate-put-line c = search needs

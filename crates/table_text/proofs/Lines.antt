@@ -10,7 +10,7 @@ use Rattle.figures.specs.Figures.{delaySum}
 use Rattle.table.specs.Places.{anchors-end, anchors-at}
 use Rattle.text.specs.Text.{ascii, line, Puts}
 use Rattle.text.specs.Putting.{puts-two}
-use Rattle.report.specs.Report.{anchorLines, figuresText}
+use Rattle.table_text.specs.TableText.{anchorLines, figuresText}
 
 -- the text that is left, stored from here on, gives what the whole text gives
 pub record Left (text : List ℕ) (at : ℕ) (old : List ℕ) (rest : List ℕ) (here : ℕ) (new : List ℕ) : Type 0 where

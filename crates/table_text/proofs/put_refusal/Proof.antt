@@ -1,8 +1,8 @@
 use native.Mathlib.Omega.{arith}
-use Rattle.report.specs.Report.{refusedText}
+use Rattle.table_text.specs.TableText.{refusedText}
 use borrow.Author.Needs.{needs}
-use Rattle.report.proofs.put_refusal.Statement.{statement}
-use Rattle.report.proofs.put_refusal.Tie as tie
+use Rattle.table_text.proofs.put_refusal.Statement.{statement}
+use Rattle.table_text.proofs.put_refusal.Tie as tie
 
 slice-aggregate-put-pair : tie.Need-slice-aggregate-put-pair
 slice-aggregate-put-pair c = search needs

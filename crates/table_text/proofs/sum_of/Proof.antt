@@ -1,7 +1,7 @@
-use Rattle.report.proofs.WellFigures.{sum-is, mean-told}
+use Rattle.table_text.proofs.WellFigures.{sum-is, mean-told}
 use borrow.Author.Needs.{needs}
-use Rattle.report.proofs.sum_of.Statement.{statement}
-use Rattle.report.proofs.sum_of.Tie as tie
+use Rattle.table_text.proofs.sum_of.Statement.{statement}
+use Rattle.table_text.proofs.sum_of.Tie as tie
 
 mean-of-requires : tie.Need-mean-of-requires
 mean-of-requires c κs = search needs

@@ -1,10 +1,10 @@
 use native.Mathlib.Omega.{arith}
 use Rattle.text.specs.Putting.{puts-two}
-use Rattle.report.specs.Report.{tableText}
-use Rattle.report.specs.Widths.{well-short}
+use Rattle.table_text.specs.TableText.{tableText}
+use Rattle.table_text.specs.Widths.{well-short}
 use borrow.Author.Needs.{needs}
-use Rattle.report.proofs.put_table.Statement.{statement}
-use Rattle.report.proofs.put_table.Tie as tie
+use Rattle.table_text.proofs.put_table.Statement.{statement}
+use Rattle.table_text.proofs.put_table.Tie as tie
 
 put-head-requires : tie.Need-put-head-requires
 put-head-requires c κs = search needs

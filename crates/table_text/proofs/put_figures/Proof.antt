@@ -1,8 +1,8 @@
 use native.Mathlib.Omega.{arith}
-use Rattle.report.proofs.Lines.{figures-lines}
+use Rattle.table_text.proofs.Lines.{figures-lines}
 use borrow.Author.Needs.{needs}
-use Rattle.report.proofs.put_figures.Statement.{statement}
-use Rattle.report.proofs.put_figures.Tie as tie
+use Rattle.table_text.proofs.put_figures.Statement.{statement}
+use Rattle.table_text.proofs.put_figures.Tie as tie
 
 slice-aggregate-put-line : tie.Need-slice-aggregate-put-line
 slice-aggregate-put-line c = search needs

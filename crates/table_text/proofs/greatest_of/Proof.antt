@@ -1,7 +1,7 @@
-use Rattle.report.proofs.WellFigures.{greatest-is, greatest-told}
+use Rattle.table_text.proofs.WellFigures.{greatest-is, greatest-told}
 use borrow.Author.Needs.{needs}
-use Rattle.report.proofs.greatest_of.Statement.{statement}
-use Rattle.report.proofs.greatest_of.Tie as tie
+use Rattle.table_text.proofs.greatest_of.Statement.{statement}
+use Rattle.table_text.proofs.greatest_of.Tie as tie
 
 greatest-of-requires : tie.Need-greatest-of-requires
 greatest-of-requires c κs = search needs

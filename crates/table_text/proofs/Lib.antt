@@ -1,0 +1,2 @@
+pub mod WellFigures
+pub mod Lines
