@@ -7,7 +7,8 @@
  * Lists and numbers are lent for the time of a call. A list is a pointer and the number of its entries; only mo_make_table,
  * mo_write_file and mo_report write to lists. A number that a call gives is lent as a pointer, several of them as an array that the call writes whole.
  * No pointer may be null, also that of a list of 0 entries, and each must point to as many entries as are named. The numbers, arrays and
- * lists that a call writes lie apart from each other and from all else that is lent to it.
+ * lists that a call writes lie apart from each other and from all else that is lent to it: the compiled code counts on that, so where they
+ * overlap the answers may be wrong and the call may even stop the program. Nothing that a call was proved to do holds then.
  *
  * Archives, each made by `rt staticlib NAME`; they can be linked together:
  *   libtable.a          mo_read_table
@@ -17,6 +18,24 @@
  *   libcapi_windows.a   mo_windows
  *   libcapi_file.a      mo_read_file, mo_write_file, mo_chain_of_schedule
  *   libcapi_report.a    mo_report
+ * libcapi_windows.a, libcapi_file.a and libcapi_report.a need memcpy and memset from the C library; the other four need nothing
+ * (`nm -u` on an archive tells; tests/c/run looks).
+ *
+ * The archives are for x86-64, in position-independent code that uses its SSE2 registers. The toolchain compiles for no other processor
+ * today: the proofs say nothing of a processor, and the back end that turns proved code into machine code has this one target. On an
+ * instrument with another processor the calls wait for such a back end; until then they serve hosts, which may work the table out and
+ * hand the instrument its anchors.
+ *
+ * Time. mo_read_table and the figures take one or two passes over the g anchors; mo_check, mo_warm_up, mo_delay and mo_age a few over the
+ * places; the calls on files one over the bytes.
+ * mo_make_table walks h / T partitions, T being the period at the place of the cut, and a partition costs each place once: with h 60,000,000
+ * and twelve places 0.04 ms where the longest period, 78,125, is cut at, and 2.8 s at a place of period 1. Cut at the longest period no
+ * chain has more than 3,063,060 partitions. mo_windows walks h / T chains, T being the first place's period: 0.04 ms to 2.7 s for these
+ * chains. mo_report makes one table, cut at the longest period: at most 0.2 s. (One run on a server's processor; an instrument's takes
+ * longer.) Nothing else that is lent makes a call take long.
+ *
+ * Stack. What each call needs below its caller's frame, in bytes, is MO_STACK_ below: measured on x86-64 and rounded up, not proved. The C
+ * library's memcpy and memset are in it. To measure it again: tests/c/run, which holds the calls to these numbers, then target/tests/c/stack.
  */
 #ifndef MESHORCHARD_H
 #define MESHORCHARD_H
@@ -27,6 +46,19 @@
 #ifdef __cplusplus
 extern "C" {
 #endif
+
+#define MO_STACK_CHECK 64u
+#define MO_STACK_WARM_UP 320u
+#define MO_STACK_DELAY 128u
+#define MO_STACK_AGE 128u
+#define MO_STACK_MAKE_TABLE 512u
+#define MO_STACK_READ_TABLE 128u
+#define MO_STACK_FIGURES 128u /* each of mo_greatest, mo_low, mo_mean, mo_throughput and mo_exceedance */
+#define MO_STACK_WINDOWS 1856u
+#define MO_STACK_READ_FILE 2432u
+#define MO_STACK_WRITE_FILE 5184u
+#define MO_STACK_CHAIN_OF_SCHEDULE 3136u
+#define MO_STACK_REPORT 19456u
 
 /*
  * Refusals: the numbers of document 01.
@@ -164,7 +196,12 @@ uint64_t mo_age(const uint64_t *tasks, size_t tasks_length, size_t places, uint6
  * Making: the table of a chain cut at place p, p counted from 1. The anchors do not depend on p; the work does, and is least at the place
  * with the longest period. figures becomes the anchor count g, the warm-up tick, the hyperperiod h and the number of partitions walked;
  * the first g entries of the lists become the anchors' starts and latencies, and the others keep their content. The table is then read
- * by mo_read_table with g and h: at every tick from the warm-up tick to MO_UPPER_TICK it gives the delay that mo_delay gives.
+ * by mo_read_table with g and h: at every tick from the warm-up tick to MO_UPPER_TICK it gives the delay that mo_delay gives. Whatever p
+ * is, the entries below g are the same, and the greatest latency of the table (mo_greatest) is the greatest delay of mo_delay and 1 more
+ * than the greatest age of mo_age. All this is proved.
+ *
+ * How long the lists must be: g is at most h / T for the period T of any place, so lists of h divided by the longest period always suffice;
+ * mo_check gives h.
  *
  * Refuses, after the chain's own refusals, the first that applies:
  *   MO_CUT_OUTSIDE_PLACES   p is 0 or above the places;
@@ -252,10 +289,14 @@ uint64_t mo_write_file(const uint64_t *tasks, size_t tasks_length, size_t count,
  * no code but the number of places.
  *
  * The call refuses nothing. Where it finds no chain, what it gives is refused by every call on chains that takes flat, 36 and the answer:
- *   a number that no counted task has gives a task of zeros, and so does every number where the list does not hold the counted tasks;
- *   where the list does not hold the counted places, flat is zeros and the answer 0;
- *   more than 12 places are answered as they are, with the tasks at the first twelve.
- * Of several tasks with one number the first is taken, and of more than 32 tasks the first 32 are looked at.
+ *   a number that no counted task has gives a task of zeros, which is MO_TASK_OUTSIDE_LIMITS;
+ *   a list that does not hold the counted tasks, and so one whose tasks_length is no multiple of 4, counts as one of no tasks, so every
+ *   place gets a task of zeros;
+ *   where the list does not hold the counted places, flat is zeros and the answer 0, which is MO_PLACES_OUTSIDE_LIMITS;
+ *   more than 12 places are answered as they are, with the tasks at the first twelve: MO_PLACES_OUTSIDE_LIMITS.
+ * It looks for no other fault of a schedule: of several tasks with one number the first is taken, numbers that do not rise or are above
+ * 65,535 are taken as they are, a task that fills no place is not looked at, and of more than 32 tasks the first 32 are. mo_write_file
+ * refuses such schedules.
  */
 uint64_t mo_chain_of_schedule(const uint64_t *tasks, size_t tasks_length, size_t count,
                               const uint64_t *chain, size_t chain_length, size_t places, uint64_t flat[36]);
@@ -280,7 +321,7 @@ uint64_t mo_chain_of_schedule(const uint64_t *tasks, size_t tasks_length, size_t
  * All the bytes lent are judged as one file. The program chainreport prints this report of the first 4,096 bytes of its input.
  *
  * The answer is no code but the length of the text, at most MO_LONGEST_REPORT. The first bytes of out become the text, as many of them as
- * there are; the others keep their content. The bytes of the file are not written. The call needs about 20,000 bytes of stack.
+ * there are; the others keep their content. The bytes of the file are not written.
  */
 #define MO_LONGEST_REPORT 23000u
 uint64_t mo_report(const uint8_t *bytes, size_t bytes_length, uint8_t *out, size_t out_length);

@@ -2,12 +2,13 @@
 
     python3 tests/differential.py [--count FACTOR] [--seed SEED]
 
-Each group prints its number of comparisons, and on files how often each answer was met; the last line is 'N passed, M failed', in groups. A
+The groups run side by side, one for each processor. Each group prints its number of comparisons, and on files how often each answer was met; the last line is 'N passed, M failed', in groups. A
 disagreement is printed with its input.
 """
 import argparse
 import collections
 import math
+import multiprocessing
 import os
 import random
 import sys
@@ -457,28 +458,35 @@ def chains_of_schedules(ours, r, factor, compare):
         compare.same(ours.chain_of_schedule(inputs.flat(tasks), count, chain, places), chain_of_any(tasks, count, chain, places), "chain", tasks, count, chain, places)
 
 
+def outcome(job):
+    """What one group found: comparisons, disagreements, the first few of them, the answers met, and its time. It runs in a process of its own."""
+    at, seed, count = job
+    run, compare, began = GROUPS[at], Comparison(), time.time()
+    run(library.Library(library.SHARED), random.Random(f"{seed} {run.__name__}"), count, compare)
+    return compare.made, len(compare.wrong), compare.wrong[:5], compare.met, time.time() - began
+
+
 def main():
     parser = argparse.ArgumentParser()
     parser.add_argument("--count", type=float, default=1.0, help="how much longer than usual")
     parser.add_argument("--seed", type=int, default=20261115)
     chosen = parser.parse_args()
-    ours = library.build()
-    print(f"differential test, seed {chosen.seed}, count {chosen.count}")
+    library.build()
+    print(f"differential test, seed {chosen.seed}, count {chosen.count}", flush=True)
     passed = failed = 0
-    for run in GROUPS:
-        compare, began = Comparison(), time.time()
-        run(ours, random.Random(f"{chosen.seed} {run.__name__}"), chosen.count, compare)
-        wrong = len(compare.wrong)
-        print(f"{run.__doc__.strip()}: {compare.made} comparisons, {wrong} disagree ({time.time() - began:.1f} s)")
-        if compare.met:
-            print("  the reference's answers: " + ", ".join(f"{answer} {times}" for answer, times in sorted(compare.met.items(), key=str)))
-        for about, mine, other in compare.wrong[:5]:
-            print(f"  {about}: the program says {mine}, the reference {other}")
-        # A group that compares nothing shows nothing.
-        if wrong == 0 and compare.made > 0:
-            passed += 1
-        else:
-            failed += 1
+    with multiprocessing.get_context("fork").Pool() as pool:
+        found = pool.imap(outcome, [(at, chosen.seed, chosen.count) for at in range(len(GROUPS))], chunksize=1)
+        for run, (made, wrong, first, met, took) in zip(GROUPS, found):
+            print(f"{run.__doc__.strip()}: {made} comparisons, {wrong} disagree ({took:.1f} s)")
+            if met:
+                print("  the reference's answers: " + ", ".join(f"{answer} {times}" for answer, times in sorted(met.items(), key=str)))
+            for about, mine, other in first:
+                print(f"  {about}: the program says {mine}, the reference {other}")
+            # A group that compares nothing shows nothing.
+            if wrong == 0 and made > 0:
+                passed += 1
+            else:
+                failed += 1
     print(f"{passed} passed, {failed} failed")
     sys.exit(0 if failed == 0 else 1)
 

@@ -3,7 +3,8 @@
     python3 tests/report.py [--count FACTOR] [--seed SEED]
 
 Runs the program once for each file, and the call with more bytes than the text has, with just as many and with fewer. Each group prints
-its number of files; the last line is 'N passed, M failed', in groups. A disagreement is printed with its file.
+its number of files. Then come reads and writes that fail, and the statuses of ./report. The last line is 'N passed, M failed', in groups. A
+disagreement is printed with its file.
 """
 import argparse
 import glob
@@ -12,6 +13,7 @@ import os
 import random
 import subprocess
 import sys
+import tempfile
 import time
 
 HERE = os.path.dirname(os.path.abspath(__file__))
@@ -211,6 +213,33 @@ def examples(r, factor):
         yield data
 
 
+# ---- what fails outside the proofs: the program's input and output, and ./report
+
+def ran(command, **how):
+    """Status, standard output and standard error of a command, without what ./report says of building."""
+    done = subprocess.run(command, stderr=subprocess.PIPE, cwd=TOP, **{"stdout": subprocess.PIPE, "stdin": subprocess.DEVNULL, **how})
+    return done.returncode, done.stdout, b"".join(line for line in done.stderr.splitlines(True) if b"proving and building" not in line)
+
+
+def failures():
+    """reads and writes that fail, and the statuses of ./report"""
+    chain_a = os.path.join(TOP, "examples", "chain-a.schedule")
+    with open(chain_a, "rb") as kept, tempfile.NamedTemporaryFile() as broken, open("/dev/full", "wb") as full:
+        text = reference.report(kept.read())
+        broken.write(bytes(3))
+        broken.flush()
+        folder = os.open("/", os.O_RDONLY)
+        with open(chain_a, "rb") as data:
+            yield "a full disk", ran([PROGRAM], stdin=data, stdout=full), (0, None, b"chainreport: writing the report: No space left on device\n")
+        yield "an input that cannot be read", ran([PROGRAM], stdin=folder), (0, b"", b"chainreport: reading standard input: Is a directory\n")
+        yield "no standard input at all", ran(["sh", "-c", "exec \"$0\" <&-", PROGRAM]), (0, b"", b"chainreport: reading standard input: Bad file descriptor\n")
+        os.close(folder)
+        yield "./report", ran(["./report"]), (0, text, b"")
+        yield "./report of a refused file", ran(["./report", broken.name]), (1, b"refused 1 0\n", b"")
+        yield "./report of no file", ran(["./report", broken.name + "-missing"])[:2], (2, b"")
+        yield "./report on a full disk", ran(["./report"], stdout=full)[0], 2
+
+
 def main():
     parser = argparse.ArgumentParser()
     parser.add_argument("--count", type=float, default=1.0, help="how much longer than usual")
@@ -243,6 +272,11 @@ def main():
         else:
             passed += 1
     print(f"{files} files")
+    wrong = [found for found in failures() if found[1] != found[2]]
+    print(f"{failures.__doc__}: {len(wrong)} not as they should be")
+    for what, mine, other in wrong:
+        print(f"  {what}: {mine}, and not {other}")
+    passed, failed = (passed, failed + 1) if wrong else (passed + 1, failed)
     print(f"{passed} passed, {failed} failed")
     sys.exit(0 if failed == 0 else 1)
 

@@ -1,0 +1,121 @@
+/*
+ * The stack that each call needs, held to the MO_STACK_ numbers of the header: each is run on a stack of its own that is painted before,
+ * and what lies below the paint that is left was used. tests/c/run builds and runs it; target/tests/c/stack prints the table by itself.
+ */
+#define _XOPEN_SOURCE 700
+#include "meshorchard.h"
+
+#include "expect.h"
+
+#include <string.h>
+#include <ucontext.h>
+
+#define SIZE 262144u
+#define PAINT 0xa5
+
+static _Alignas(64) unsigned char stack[SIZE];
+static ucontext_t here, there;
+
+/* How far below the top of its stack f reached. */
+static size_t depth(void (*f)(void))
+{
+    size_t untouched = 0;
+
+    memset(stack, PAINT, sizeof stack);
+    getcontext(&there);
+    there.uc_stack.ss_sp = stack;
+    there.uc_stack.ss_size = sizeof stack;
+    there.uc_link = &here;
+    makecontext(&there, f, 0);
+    swapcontext(&here, &there);
+    while (untouched < SIZE && stack[untouched] == PAINT)
+        untouched++;
+    return SIZE - untouched;
+}
+
+/* ---- what the calls are given: twelve places, long numbers, and every way that ends late */
+
+static uint64_t tasks[36], flat[36], numbered[128], chain[12], jobs[12], counts[2], figures[4];
+static uint64_t starts[1024], latencies[1024];
+static uint64_t a, b;
+static uint8_t file[608], text[MO_LONGEST_REPORT];
+static size_t file_length;
+
+static void put(uint64_t value, int bytes)
+{
+    while (bytes-- > 0) {
+        file[file_length++] = (uint8_t)value;
+        value /= 256;
+    }
+}
+
+/* Thirty-two tasks and a chain of twelve places: the longest file. Two periods with no common divisor have some
+ * thousand partitions, and nearly as many anchors. */
+static void prepare(void)
+{
+    for (size_t i = 0; i < 32; i++) {
+        const uint64_t task[4] = { 65000 + i, i % 2 ? 1009 : 1013, 4000000, 1000000 };
+        memcpy(numbered + 4 * i, task, sizeof task);
+        put(18, 2), put(1, 2), put(task[0], 2), put(task[1], 4), put(task[2], 4), put(task[3], 4);
+    }
+    put(28, 2), put(2, 2);
+    for (size_t i = 0; i < 12; i++) {
+        chain[i] = 65020 + i;
+        put(chain[i], 2);
+        memcpy(tasks + 3 * i, numbered + 4 * (20 + i) + 1, 3 * sizeof *tasks);
+    }
+    put(4, 2), put(3, 2);
+}
+
+static void nothing(void) { }
+static void check(void) { mo_check(tasks, 36, 12, &a); }
+static void warm_up(void) { mo_warm_up(tasks, 36, 12, jobs, &a, &b); }
+static void delay(void) { mo_delay(tasks, 36, 12, 999999999999u, &a); }
+static void age(void) { mo_age(tasks, 36, 12, 999999999999u, &a); }
+static void make_table(void) { mo_make_table(tasks, 36, 12, 7, starts, 1024, latencies, 1024, figures); }
+static void read_table(void) { a = mo_read_table(starts, 1024, latencies, 1024, figures[0], figures[2], 999999999999u); }
+static void greatest(void) { mo_greatest(starts, 1024, latencies, 1024, figures[0], figures[2], &a); }
+static void low(void) { mo_low(starts, 1024, latencies, 1024, figures[0], figures[2], &a); }
+static void mean(void) { mo_mean(starts, 1024, latencies, 1024, figures[0], figures[2], &a, &b); }
+static void throughput(void) { mo_throughput(starts, 1024, latencies, 1024, figures[0], figures[2], &a, &b); }
+static void exceedance(void) { mo_exceedance(starts, 1024, latencies, 1024, figures[0], figures[2], 48000000, &a, &b); }
+static void windows(void) { mo_windows(tasks, 36, 12, 48000000, 100, &a, &b); }
+static void read_file(void) { mo_read_file(file, file_length, numbered, chain, counts); }
+static void write_file(void) { mo_write_file(numbered, 128, 32, chain, 12, 12, text, sizeof text, &a); }
+static void chain_of_schedule(void) { mo_chain_of_schedule(numbered, 128, 32, chain, 12, 12, flat); }
+static void report(void) { a = mo_report(file, file_length, text, sizeof text); }
+
+/* A call's depth below that of an empty function is at most what the header says, and not much less. */
+static void held(const char *what, void (*f)(void), size_t said)
+{
+    size_t empty = depth(nothing), used = depth(f);
+    size_t needs = used > empty ? used - empty : 0;
+
+    printf("ok    %s: %zu bytes, the header says %zu\n", what, needs, said);
+    expect(what, needs <= said && said <= needs + 256, 1);
+}
+
+int main(void)
+{
+    prepare();
+    expect("bytes of the file", file_length, 608);
+    held("mo_check", check, MO_STACK_CHECK);
+    held("mo_warm_up", warm_up, MO_STACK_WARM_UP);
+    held("mo_delay", delay, MO_STACK_DELAY);
+    held("mo_age", age, MO_STACK_AGE);
+    held("mo_make_table", make_table, MO_STACK_MAKE_TABLE);
+    expect("anchors, many and no more than 1,024", figures[0] > 900 && figures[0] <= 1024, 1);
+    held("mo_read_table", read_table, MO_STACK_READ_TABLE);
+    held("mo_greatest", greatest, MO_STACK_FIGURES);
+    held("mo_low", low, MO_STACK_FIGURES);
+    held("mo_mean", mean, MO_STACK_FIGURES);
+    held("mo_throughput", throughput, MO_STACK_FIGURES);
+    held("mo_exceedance", exceedance, MO_STACK_FIGURES);
+    held("mo_windows", windows, MO_STACK_WINDOWS);
+    held("mo_read_file", read_file, MO_STACK_READ_FILE);
+    held("mo_write_file", write_file, MO_STACK_WRITE_FILE);
+    expect("file written", a, 608);
+    held("mo_chain_of_schedule", chain_of_schedule, MO_STACK_CHAIN_OF_SCHEDULE);
+    held("mo_report", report, MO_STACK_REPORT);
+    return counted();
+}
