@@ -1,4 +1,3 @@
-pub mod Contracts
 pub mod Codes
 pub mod TablesAndWalks
 pub mod NoChain

@@ -1,17 +1,19 @@
 -- What mo_chain_of_schedule gives where it finds no chain is refused by every call on chains that takes flat, 36 and the answer:
--- with 8 where the number of places is wrong or the list does not hold them (`places-refused`), with 5 where a place's number is that of no counted task (`unknown-refused`).
+-- with 8 where the number of places is wrong or the list does not hold them (`places-refused`), with 5 where a place's number is that of no counted task (`unknown-refused`)
+-- or the list does not hold the counted tasks (`tasks-refused`). What a call refuses is said of its own contract (`RefusedByAll`).
 use Prim.Native.Nat.{ℕ, zero, suc, _+_, _≤_, _<_}
 use native.Mathlib.Omega.{arith}
 use mathlib.Core.Path.{_≡_, refl, sym, ap, _∙_}
 use mathlib.Core.Bool.{Bool, true, false, cond}
 use mathlib.Core.List.{List, [], _∷_, map}
-use lib.ListN.{length, take, getD}
+use lib.ListN.{length, take, getD, replicate}
 use lib.Seq.{getD-take, length-take-le}
 use Rattle.refusal.specs.declared.Refusal.{Refusal}
-use Rattle.refusal.specs.Refusals.{refusal}
+use Rattle.refusal.specs.Refusals.{refusal, codeOf}
 use Rattle.task.specs.declared.Task.{Task}
 use Rattle.task.specs.Jobs.{withinLimits}
 use Rattle.chain.specs.declared.Chain.{Chain}
+use Rattle.chain.specs.declared.Verdict.{Verdict}
 use Rattle.chain.specs.declared.Verdict.the-variants.{Refused}
 use Rattle.chain.specs.Chains.{tasksOf, at, zeroTask}
 use Rattle.chain.specs.Entries.{entries-length, entries-at}
@@ -22,38 +24,56 @@ use Rattle.chain.proofs.CheckLaws.{check-fault}
 use Rattle.schedule.specs.declared.Schedule.{Schedule}
 use Rattle.schedule.specs.Schedules.{numberOf, tasksIn, placesIn, known, taskNumbered, chainOf}
 use Rattle.schedule.specs.ChainTasks.{unknown-zero, chain-tasks, chain-length, chain-twelve}
-use Rattle.timing.specs.declared.Span.the-variants as span
-use Rattle.timing.specs.Answers.{warmUpAfter, warmUpOf, spanAfter, delayOf, ageOf}
-use Rattle.maker.specs.declared.Made.the-variants as made
-use Rattle.maker.specs.Making.{judged, madeAfter, madeOf}
-use Rattle.windows.specs.declared.Windows.{Windows}
-use Rattle.windows.specs.declared.Windows.the-variants as windows
+use Rattle.timing.specs.declared.WarmUp.{WarmUp}
+use Rattle.timing.specs.WarmUp.{warmTick}
+use Rattle.timing.specs.Delay.{delayAt, firstAged, ageAt}
+use Rattle.timing.specs.Answers.{warmUpAfter, warmUpOf, spanAfter}
+use Rattle.maker.specs.Making.{afterChecks, judged, madeAfter, writtenAfter, startsOf, latenciesOf, overlay}
+use Rattle.maker.proofs.Lists.{sets-overlay}
 use Rattle.windows.specs.Windows as windows-of
+use Rattle.capi_timing.specs.Calls.{verdictCode, verdictHyper, spanCode, spanTicks, jobNumber, GivesCheck, GivesWarmUp, GivesDelay, GivesAge}
+use Rattle.capi_maker.specs.Calls.{madeCode, madeNumbers, GivesTable}
+use Rattle.capi_windows.specs.Calls.{windowNumbers, GivesWindows}
+use Rattle.capi_file.specs.Calls.{GivesChain}
 use Rattle.capi_chain.specs.FlatChain.{placesOf, chainFrom}
 use Rattle.capi_chain.specs.Front.{chain-given-back, chain-count, places-given}
-use Rattle.capi_file.specs.FlatSchedule.{placeAt, placesFrom, scheduleFrom}
+use Rattle.capi_file.specs.FlatSchedule.{placeAt, tasksFrom, countFrom, placesFrom, scheduleFrom}
 use Rattle.capi_file.specs.GivenBack.{places-are, places-fit}
 
--- ---- a refused chain is refused by every call on chains, with the same refusal
+-- ---- a refused chain is refused by every call on chains, with the same refusal, zeros in every number lent, and lists as they were
 
 pub record RefusedByAll (c : Chain) (r : Refusal) : Type 0 where
-  pub check : verdictOf c ≡ Refused r
-  pub warm-up : warmUpOf c .refusal ≡ r
-  pub delay : (t : ℕ) → delayOf c t ≡ span.Refused r
-  pub age : (z : ℕ) → ageOf c z ≡ span.Refused r
-  pub make-table : (p a b : ℕ) → madeOf c p a b ≡ made.Refused r
-  pub windows : (B k j : ℕ) → windows-of.windowsAfter (tasksOf c) B k j (windows-of.judged c k) ≡ windows.Refused r
+  pub check : (code hyperperiod : ℕ) → GivesCheck c code hyperperiod → (code ≡ codeOf r) × (hyperperiod ≡ 0)
+  pub warm-up : (code : ℕ) (jobs : List ℕ) (tick hyperperiod : ℕ) → GivesWarmUp (warmUpOf c) code jobs tick hyperperiod
+      → (code ≡ codeOf r) × (jobs ≡ replicate 12 0) × (tick ≡ 0) × (hyperperiod ≡ 0)
+  pub delay : (t code ticks : ℕ) → GivesDelay c t code ticks → (code ≡ codeOf r) × (ticks ≡ 0)
+  pub age : (z code ticks : ℕ) → GivesAge c z code ticks → (code ≡ codeOf r) × (ticks ≡ 0)
+  pub make-table : (p : ℕ) (s v : List ℕ) (code : ℕ) (s′ v′ figures : List ℕ) → GivesTable c p s v code s′ v′ figures
+      → (code ≡ codeOf r) × (figures ≡ 0 ∷ 0 ∷ 0 ∷ 0 ∷ []) × (s ≡ s′) × (v ≡ v′)
+  pub windows : (B k code misses first : ℕ) → GivesWindows c B k code misses first → (code ∷ misses ∷ first ∷ []) ≡ codeOf r ∷ 0 ∷ 0 ∷ []
 
 pub refused-by-all : (c : Chain) (r : Refusal) → verdictOf c ≡ Refused r → RefusedByAll c r
-unfolding warmUpAfter spanAfter judged madeAfter windows-of.judged windows-of.windowsAfter
+unfolding warmUpAfter spanAfter judged madeAfter writtenAfter windows-of.judged windows-of.toldAfter
 refused-by-all c r e = record {
-  check = e;
-  warm-up = rw e;
-  delay = λ t. rw e;
-  age = λ z. rw e;
-  make-table = λ p a b. rw e;
-  windows = λ B k j. rw e;
+  check = λ code h g. (g .0 ∙ ap verdictCode e, g .1 ∙ ap verdictHyper e);
+  warm-up = λ code jobs tick h g.
+      let w = ap (warmUpAfter (tasksOf c)) e in
+      (g .answers ∙ ap (λ (x : WarmUp). codeOf (x .refusal)) w, g .gives-jobs ∙ ap (λ (x : WarmUp). map jobNumber (x .jobs)) w, g .gives-tick ∙ ap (λ (x : WarmUp). x .tick .0) w, g .gives-hyperperiod ∙ ap (λ (x : WarmUp). x .hyperperiod) w);
+  delay = λ t code ticks g. span-refused (warmTick (tasksOf c)) t (delayAt (tasksOf c) t) code ticks g;
+  age = λ z code ticks g. span-refused (firstAged (tasksOf c)) z (ageAt (tasksOf c) z) code ticks g;
+  make-table = λ p s v code s′ v′ figures g.
+      let j : judged c p (length s) (length v) ≡ Refused r = ap (λ (x : Verdict). afterChecks x (c .places) p (length s) (length v)) e in (
+        g .answers ∙ ap (λ (x : Verdict). madeCode (madeAfter c p (length s) x)) j,
+        g .gives-figures ∙ ap (λ (x : Verdict). madeNumbers (madeAfter c p (length s) x)) j,
+        sym (g .leaves-starts ∙ ap (λ (x : Verdict). overlay (startsOf (writtenAfter c p x)) s) j ∙ sym (sets-overlay [] s)),
+        sym (g .leaves-latencies ∙ ap (λ (x : Verdict). overlay (latenciesOf (writtenAfter c p x)) v) j ∙ sym (sets-overlay [] v)),
+      );
+  windows = λ B k code misses first g. g .answers ∙ ap (λ (x : Verdict). windowNumbers (windows-of.toldAfter (tasksOf c) B k first (windows-of.afterLimits x k))) e;
 }
+  where
+    span-refused : (from t span code ticks : ℕ) → (code ≡ spanCode (spanAfter (verdictOf c) from t span)) × (ticks ≡ spanTicks (spanAfter (verdictOf c) from t span)) → (code ≡ codeOf r) × (ticks ≡ 0)
+    span-refused from t span code ticks g =
+        (g .0 ∙ ap (λ (x : Verdict). spanCode (spanAfter x from t span)) e, g .1 ∙ ap (λ (x : Verdict). spanTicks (spanAfter x from t span)) e)
 
 -- ---- where a schedule has no chain
 
@@ -78,14 +98,13 @@ unfolding withinLimits
 zero-outside = refl
 
 -- What mo_chain_of_schedule gives, by its contract.
-module _ (tasks : List ℕ) (count : ℕ) (chain : List ℕ) (places answer : ℕ) (flat : List ℕ)
-    (places-given-out : answer ≡ chainOf (scheduleFrom tasks count chain places) .places) (tasks-given-out : flat ≡ flatChain (chainOf (scheduleFrom tasks count chain places) .tasks)) where
+module _ (tasks : List ℕ) (count : ℕ) (chain : List ℕ) (places answer : ℕ) (flat : List ℕ) (gives : GivesChain (scheduleFrom tasks count chain places) answer flat) where
   abbrev s : Schedule
   s = scheduleFrom tasks count chain places
 
   -- the chain that a call on chains makes of it
   same : chainFrom flat answer ≡ chainFrom (flatChain (chainOf s .tasks)) (chainOf s .places)
-  same = ap (chainFrom flat) places-given-out ∙ ap (λ (l : List ℕ). chainFrom l (chainOf s .places)) tasks-given-out
+  same = ap (chainFrom flat) (gives .0) ∙ ap (λ (l : List ℕ). chainFrom l (chainOf s .places)) (gives .1)
 
   -- Places that are not 1 to 12, or more than the list holds.
   pub places-refused : (1 ≤ places → places ≤ length chain → 12 < places) → RefusedByAll (chainFrom flat answer) (refusal 8 0)
@@ -95,10 +114,10 @@ module _ (tasks : List ℕ) (count : ℕ) (chain : List ℕ) (places answer : �
       far g =
           let n = chain-count flat answer in
           let e : placesOf (length flat) answer ≡ answer = places-given (length flat) answer (omega arith) in
-          let m : placesFrom (length chain) places ≡ places = places-are (length chain) places (omega (arith, places-given-out)) in
-          omega (arith, places-given-out, wrong (omega (arith, places-given-out)) (places-fit (length chain) places m))
+          let m : placesFrom (length chain) places ≡ places = places-are (length chain) places (omega (arith, gives .0)) in
+          omega (arith, gives .0, wrong (omega (arith, gives .0)) (places-fit (length chain) places m))
 
-  -- A place, counted from 0, whose number no counted task has; where the list does not hold the counted tasks, none is counted.
+  -- A place, counted from 0, whose number no counted task has.
   pub unknown-refused : (i : ℕ) → i < s .places → s .places ≤ 12 → known (map numberOf (tasksIn s)) (placeAt chain i) ≡ false
       → (1 ≤ firstFault 1 (tasksOf (chainOf s))) × RefusedByAll (chainFrom flat answer) (refusal 5 (firstFault 1 (tasksOf (chainOf s))))
   unknown-refused i h few unknown =
@@ -111,3 +130,9 @@ module _ (tasks : List ℕ) (count : ℕ) (chain : List ℕ) (places answer : �
       let fault = fault-found (tasksOf (chainOf s)) 1 i (omega arith) (omega arith) (ap withinLimits here ∙ zero-outside) in
       let e = check-fault (s .places) (tasksOf (chainOf s)) (omega arith) few (firstFault 1 (tasksOf (chainOf s))) refl (λ z. omega arith) in
       (fault, refused-by-all (chainFrom flat answer) _ (ap verdictOf (same ∙ chain-given-back (chainOf s) (chain-twelve s long few) few) ∙ sym e))
+
+  -- A list that does not hold the counted tasks counts as one of none.
+  pub tasks-refused : countFrom (length tasks) count ≡ 0 → 1 ≤ s .places → s .places ≤ 12
+      → (1 ≤ firstFault 1 (tasksOf (chainOf s))) × RefusedByAll (chainFrom flat answer) (refusal 5 (firstFault 1 (tasksOf (chainOf s))))
+  unfolding known
+  tasks-refused none some few = unknown-refused 0 some few (ap (λ (n : ℕ). known (map numberOf (take n (tasksFrom tasks))) (placeAt chain 0)) none)

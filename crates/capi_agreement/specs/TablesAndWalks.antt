@@ -17,7 +17,7 @@ use Rattle.timing.specs.WarmUp.{warmTick}
 use Rattle.timing.specs.Delay.{delayAt, firstAged, ageAt}
 use Rattle.timing.specs.Answers.{upperTick, delayOf, ageOf}
 use Rattle.timing.specs.Spans.{span-answered}
-use Rattle.table.specs.Reading.{reading, wordOf}
+use Rattle.table.specs.Reading.{reading, wordOf, GivesWord}
 use Rattle.table.specs.Words.{word-small}
 use Rattle.figures.specs.Figures.{greatestOf}
 use Rattle.maker.specs.declared.Figures.{Figures}
@@ -28,10 +28,9 @@ use Rattle.agreement.specs.Agreement.{SameAnchors, SameGreatest, held, table-is
 use Rattle.agreement.specs.EveryChain.{Asked, room-enough}
 use Rattle.capi_chain.specs.FlatChain.{taskAt, chainFrom}
 use Rattle.capi_chain.specs.Front.{chain-at, chain-twelve, places-inside, chain-count, places-given}
-use Rattle.capi_timing.specs.Calls.{spanCode, spanTicks}
-use Rattle.capi_figures.specs.Calls.{greatestNumbers}
+use Rattle.capi_timing.specs.Calls.{spanCode, spanTicks, GivesCheck, GivesDelay, GivesAge}
+use Rattle.capi_figures.specs.Calls.{greatestNumbers, GivesGreatest}
 use Rattle.capi_maker.specs.Calls.{madeCode, madeNumbers, GivesTable}
-use Rattle.capi_agreement.specs.Contracts.{GivesCheck, GivesDelay, GivesAge, GivesWord, GivesGreatest}
 use Rattle.capi_agreement.specs.Codes.{check-zero, span-zero, made-zero}
 
 -- figures of mo_make_table: g, the warm-up tick and h.
@@ -57,13 +56,13 @@ pub record SameEntries (starts latencies starts″ latencies″ figures figures�
   pub latency : (i : ℕ) → i < count figures → getD latencies i 0 ≡ getD latencies″ i 0
 
 -- The greatest that mo_delay gives and 1 + the greatest that mo_age gives, at ticks that they do not refuse: no tick has more, and one has it.
-pub record GreatestForC (tasks : List ℕ) (places latency : ℕ) : Type 0 where
-  pub delay-within : (t code delay : ℕ) → GivesDelay tasks places t code delay → code ≡ 0 → delay ≤ latency
+pub record GreatestForC (c : Chain) (latency : ℕ) : Type 0 where
+  pub delay-within : (t code delay : ℕ) → GivesDelay c t code delay → code ≡ 0 → delay ≤ latency
   pub delay-at : ℕ
-  pub delay-meets : (code delay : ℕ) → GivesDelay tasks places delay-at code delay → (code ≡ 0) × (delay ≡ latency)
-  pub age-within : (z code age : ℕ) → GivesAge tasks places z code age → code ≡ 0 → 1 + age ≤ latency
+  pub delay-meets : (code delay : ℕ) → GivesDelay c delay-at code delay → (code ≡ 0) × (delay ≡ latency)
+  pub age-within : (z code age : ℕ) → GivesAge c z code age → code ≡ 0 → 1 + age ≤ latency
   pub age-at : ℕ
-  pub age-meets : (code age : ℕ) → GivesAge tasks places age-at code age → (code ≡ 0) × (1 + age ≡ latency)
+  pub age-meets : (code age : ℕ) → GivesAge c age-at code age → (code ≡ 0) × (1 + age ≡ latency)
 
 module _ (tasks : List ℕ) (places : ℕ) where
   abbrev c : Chain
@@ -98,7 +97,7 @@ module _ (tasks : List ℕ) (places : ℕ) where
     read-given t = ap (λ (x : ℕ). reading s′ v′ x (hyper figures) t) (done .anchors) ∙ ap (λ (x : ℕ). reading s′ v′ (done .given .anchors) x t) (done .hyperperiod)
 
     pub table-is-walk-for-c : (t : ℕ) → tick figures ≤ t → t ≤ upperTick → (word : ℕ) → GivesWord s′ v′ (count figures) (hyper figures) t word
-        → (code′ delay : ℕ) → GivesDelay tasks places t code′ delay → SameWord code′ delay word
+        → (code′ delay : ℕ) → GivesDelay c t code′ delay → SameWord code′ delay word
     table-is-walk-for-c t low high word reads code′ delay walks =
         let a = table-is-walk c twelve p s v s′ v′ (done .given) (done .makes) t (omega (arith, done .from)) high in
         let r = read-given t ∙ a .read in
@@ -117,19 +116,19 @@ module _ (tasks : List ℕ) (places : ℕ) where
         g ∙ ap (λ (x : ℕ). greatestNumbers (greatestOf s′ v′ x (hyper figures))) (done .anchors)
         ∙ ap (λ (x : ℕ). greatestNumbers (greatestOf s′ v′ (done .given .anchors) x)) (done .hyperperiod) ∙ ap greatestNumbers (agreed .answered)
 
-    delays-within : (t code′ delay : ℕ) → GivesDelay tasks places t code′ delay → code′ ≡ 0 → delay ≤ agreed .latency
+    delays-within : (t code′ delay : ℕ) → GivesDelay c t code′ delay → code′ ≡ 0 → delay ≤ agreed .latency
     delays-within t code′ delay g e =
         let z = span-zero c (warmTick (tasksOf c)) t (delayAt (tasksOf c) t) (sym (g .0) ∙ e) in
         let k = span-answered (verdictOf c) (warmTick (tasksOf c)) t (delayAt (tasksOf c) t) _ z in
         omega (arith, g .1, k .is, agreed .greatest-delay .bound t (omega (arith, k .early, held c twelve p s v s′ v′ (done .given) (done .makes) .tick)) (k .late))
 
-    ages-within : (z code′ age : ℕ) → GivesAge tasks places z code′ age → code′ ≡ 0 → 1 + age ≤ agreed .latency
+    ages-within : (z code′ age : ℕ) → GivesAge c z code′ age → code′ ≡ 0 → 1 + age ≤ agreed .latency
     ages-within z code′ age g e =
         let q = span-zero c (firstAged (tasksOf c)) z (ageAt (tasksOf c) z) (sym (g .0) ∙ e) in
         let k = span-answered (verdictOf c) (firstAged (tasksOf c)) z (ageAt (tasksOf c) z) _ q in
         omega (arith, g .1, k .is, agreed .greatest-age .bound z (k .early) (k .late))
 
-    pub greatest-for-c : (code′ latency : ℕ) → GivesGreatest s′ v′ (count figures) (hyper figures) code′ latency → (code′ ≡ 0) × GreatestForC tasks places latency
+    pub greatest-for-c : (code′ latency : ℕ) → GivesGreatest s′ v′ (count figures) (hyper figures) code′ latency → (code′ ≡ 0) × GreatestForC c latency
     greatest-for-c code′ latency g =
         let n = greatest-numbers code′ latency g in
         let top : latency ≡ agreed .latency = ap (λ (l : List ℕ). getD l 1 0) n in
@@ -162,7 +161,7 @@ module _ (tasks : List ℕ) (places : ℕ) where
       }
 
   -- Of a chain that mo_check accepts, mo_make_table answers 0 at each place p, from lists of equal length of at least h / T entries, T being the period at any place: tasks[3 * i], i from 0.
-  module _ (code h : ℕ) (checks : GivesCheck tasks places code h) (fine : code ≡ 0) where
+  module _ (code h : ℕ) (checks : GivesCheck c code h) (fine : code ≡ 0) where
     is-accepted : verdictOf c ≡ verdict.Accepted h
     is-accepted = check-zero c (sym (checks .0) ∙ fine) ∙ ap verdict.Accepted (sym (checks .1))
 

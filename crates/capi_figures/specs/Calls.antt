@@ -1,10 +1,12 @@
 -- How the calls for C give a table's figures: for each answer the numbers that C gets, first the call's code, 0 for a success, then the
 -- numbers lent to it in their order, all 0 beside a refusal.
 use Prim.Native.Nat.{ℕ}
+use mathlib.Core.Path.{_≡_}
 use mathlib.Core.List.{List, [], _∷_}
 use Rattle.refusal.specs.Refusals.{codeOf}
 use Rattle.figures.specs.declared.Greatest.{Greatest}
 use Rattle.figures.specs.declared.Greatest.the-variants as greatest
+use Rattle.figures.specs.Figures.{greatestOf}
 use Rattle.figures.specs.declared.Low.{Low}
 use Rattle.figures.specs.declared.Low.the-variants as low
 use Rattle.figures.specs.declared.Mean.{Mean}
@@ -18,6 +20,10 @@ use Rattle.figures.specs.declared.Exceedance.the-variants as exceedance
 abbrev pub greatestNumbers : Greatest → List ℕ
 greatestNumbers (greatest.Latency v) = 0 ∷ v ∷ []
 greatestNumbers (greatest.Refused r) = codeOf r ∷ 0 ∷ []
+
+-- The call: its code and the latency.
+abbrev pub GivesGreatest : List ℕ → List ℕ → ℕ → ℕ → ℕ → ℕ → Type 0
+GivesGreatest starts latencies g h code latency = (code ∷ latency ∷ []) ≡ greatestNumbers (greatestOf starts latencies g h)
 
 -- Low.
 abbrev pub lowNumbers : Low → List ℕ

@@ -7,8 +7,8 @@ use figures::Mean;
 use figures::Throughput;
 ghost use mathlib.Core.Path.{_≡_};
 ghost use mathlib.Core.List.{[], _∷_};
-ghost use Rattle.figures.specs.Figures.{greatestOf, lowOf, meanOf, throughputOf, exceedanceOf};
-ghost use Rattle.capi_figures.specs.Calls.{greatestNumbers, lowNumbers, meanNumbers, throughputNumbers, exceedanceNumbers};
+ghost use Rattle.figures.specs.Figures.{lowOf, meanOf, throughputOf, exceedanceOf};
+ghost use Rattle.capi_figures.specs.Calls.{GivesGreatest, lowNumbers, meanNumbers, throughputNumbers, exceedanceNumbers};
 
 // The greatest latency.
 #[no_mangle]
@@ -19,7 +19,7 @@ pub extern "C" fn mo_greatest(
     h: u64,
     latency: &mut u64,
 ) -> u64
-    ensures { λ r. ⌜ (r ∷ now (latency .exit) ∷ []) ≡ greatestNumbers (greatestOf (now (starts .entry)) (now (latencies .entry)) g h) ⌝ }
+    ensures { λ r. ⌜ GivesGreatest (now (starts .entry)) (now (latencies .entry)) g h r (now (latency .exit)) ⌝ }
 {
     let a = figures::greatest_of(starts, latencies, g as usize, h);
     match a {

@@ -4,7 +4,9 @@ use mathlib.Core.Path.{_≡_}
 use mathlib.Core.List.{List, [], _∷_}
 use lib.ListN.{length}
 use Rattle.refusal.specs.Refusals.{codeOf}
+use Rattle.chain.specs.Flat.{flatChain}
 use Rattle.schedule.specs.declared.Schedule.{Schedule}
+use Rattle.schedule.specs.Schedules.{chainOf}
 use Rattle.file_reader.specs.declared.FileRead.{FileRead}
 use Rattle.file_writer.specs.declared.Written.{Written}
 use Rattle.file_writer.specs.declared.Written.the-variants.{Bytes, Refused}
@@ -32,3 +34,7 @@ pub record GivesFile (s : Schedule) (old : List ℕ) (code : ℕ) (new : List �
   pub answers : code ≡ writtenCode (writtenOf s (length old))
   pub leaves : new ≡ leftBytes (writtenOf s (length old)) (fileBytes s) old
   pub gives-length : long ≡ writtenLength (writtenOf s (length old))
+
+-- The chain of a schedule: its number of places, and its tasks as a flat list.
+abbrev pub GivesChain : Schedule → ℕ → List ℕ → Type 0
+GivesChain s answer flat = (answer ≡ chainOf s .places) × (flat ≡ flatChain (chainOf s .tasks))

@@ -27,8 +27,8 @@ tasksFrom l = entries (numberedAt l) 0 32
 abbrev pub chainFrom : List ℕ → List ℕ
 chainFrom l = entries (placeAt l) 0 12
 
--- A list whose length is no multiple of four, or that holds fewer tasks than are counted, gives a schedule of no tasks, which is refused with 8;
--- so does a list that holds fewer places than are counted.
+-- A list whose length is no multiple of four, or that holds fewer tasks than are counted, gives a schedule of no tasks, which writing refuses with 8;
+-- so it does one of no places, of a list that holds fewer places than are counted.
 unfoldable pub countFrom : ℕ → ℕ → ℕ
 countFrom long count = cond (eqb (long % 4) 0 && leb count (long / 4)) count 0
 

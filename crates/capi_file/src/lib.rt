@@ -8,11 +8,9 @@ use task::Task;
 ghost use mathlib.Core.Path.{_≡_};
 ghost use Prim.Native.Nat.{_+_, _*_, _≤_, _<_};
 ghost use lib.ListN.{length};
-ghost use Rattle.chain.specs.Flat.{flatChain};
-ghost use Rattle.schedule.specs.Schedules.{chainOf};
 ghost use Rattle.file_reader.specs.Reading.{readFile};
 ghost use Rattle.capi_file.specs.FlatSchedule.{numberedAt, countFrom, placesFrom, placeAt, tasksFrom, chainFrom, scheduleFrom, flatTasks};
-ghost use Rattle.capi_file.specs.Calls.{GivesSchedule, GivesFile};
+ghost use Rattle.capi_file.specs.Calls.{GivesSchedule, GivesFile, GivesChain};
 
 // ---- a schedule from flat lists
 
@@ -195,7 +193,7 @@ pub extern "C" fn mo_chain_of_schedule(
     places: usize,
     flat: &mut [u64; 36],
 ) -> u64
-    ensures { λ r. ⌜ (r ≡ chainOf (scheduleFrom (now (tasks .entry)) count (now (chain .entry)) places) .places) × (now (flat .exit) ≡ flatChain (chainOf (scheduleFrom (now (tasks .entry)) count (now (chain .entry)) places) .tasks)) ⌝ }
+    ensures { λ r. ⌜ GivesChain (scheduleFrom (now (tasks .entry)) count (now (chain .entry)) places) r (now (flat .exit)) ⌝ }
 {
     let c = schedule::chain_of(schedule_from(tasks, count, chain, places));
     *flat = chain::flat(c);

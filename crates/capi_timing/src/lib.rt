@@ -8,10 +8,9 @@ ghost use mathlib.Core.Path.{_≡_};
 ghost use mathlib.Core.List.{map};
 ghost use Prim.Native.Nat.{_+_, _*_, _≤_, _<_};
 ghost use Rattle.refusal.specs.Refusals.{codeOf};
-ghost use Rattle.chain.specs.Checks.{verdictOf};
 ghost use Rattle.capi_chain.specs.FlatChain.{chainFrom};
-ghost use Rattle.timing.specs.Answers.{warmUpOf, delayOf, ageOf};
-ghost use Rattle.capi_timing.specs.Calls.{verdictCode, verdictHyper, spanCode, spanTicks, jobNumber, GivesWarmUp, SmallSpan};
+ghost use Rattle.timing.specs.Answers.{warmUpOf};
+ghost use Rattle.capi_timing.specs.Calls.{spanCode, spanTicks, jobNumber, GivesCheck, GivesDelay, GivesAge, GivesWarmUp, SmallSpan};
 
 // Gives a span of ticks: its code, and its ticks to the number lent.
 fn give(s: Span, out: &mut u64) -> u64
@@ -47,7 +46,7 @@ fn job_numbers(all: [Job; 12]) -> [u64; 12]
 // The checks of a chain, 8, 5 and 7, and its hyperperiod.
 #[no_mangle]
 pub extern "C" fn mo_check(tasks: &[u64], places: usize, hyperperiod: &mut u64) -> u64
-    ensures { λ r. ⌜ (r ≡ verdictCode (verdictOf (chainFrom (now (tasks .entry)) places))) × (now (hyperperiod .exit) ≡ verdictHyper (verdictOf (chainFrom (now (tasks .entry)) places))) ⌝ }
+    ensures { λ r. ⌜ GivesCheck (chainFrom (now (tasks .entry)) places) r (now (hyperperiod .exit)) ⌝ }
 {
     let n = capi_chain::flat_length(tasks.len(), places);
     let v = chain::check_on(&tasks[..n]);
@@ -88,7 +87,7 @@ pub extern "C" fn mo_warm_up(
 // Walking: the delay of a press at tick t.
 #[no_mangle]
 pub extern "C" fn mo_delay(tasks: &[u64], places: usize, t: u64, delay: &mut u64) -> u64
-    ensures { λ r. ⌜ (r ≡ spanCode (delayOf (chainFrom (now (tasks .entry)) places) t)) × (now (delay .exit) ≡ spanTicks (delayOf (chainFrom (now (tasks .entry)) places) t)) ⌝ }
+    ensures { λ r. ⌜ GivesDelay (chainFrom (now (tasks .entry)) places) t r (now (delay .exit)) ⌝ }
 {
     let n = capi_chain::flat_length(tasks.len(), places);
     give(timing::delay_on(&tasks[..n], Tick(t)), delay)
@@ -97,7 +96,7 @@ pub extern "C" fn mo_delay(tasks: &[u64], places: usize, t: u64, delay: &mut u64
 // Ageing: the age at tick z.
 #[no_mangle]
 pub extern "C" fn mo_age(tasks: &[u64], places: usize, z: u64, age: &mut u64) -> u64
-    ensures { λ r. ⌜ (r ≡ spanCode (ageOf (chainFrom (now (tasks .entry)) places) z)) × (now (age .exit) ≡ spanTicks (ageOf (chainFrom (now (tasks .entry)) places) z)) ⌝ }
+    ensures { λ r. ⌜ GivesAge (chainFrom (now (tasks .entry)) places) z r (now (age .exit)) ⌝ }
 {
     let n = capi_chain::flat_length(tasks.len(), places);
     give(timing::age_on(&tasks[..n], Tick(z)), age)

@@ -1,4 +1,5 @@
 -- Document 01, "Reading a table": the delay that a table gives at a tick, and what the call answers.
+use mathlib.Core.Path.{_≡_}
 use mathlib.Core.Bool.{cond}
 use mathlib.Core.List.{List, [], _∷_}
 use Prim.Native.Nat.{ℕ, _+_, _-_, _%_}
@@ -40,3 +41,7 @@ reading starts latencies g H t =
 abbrev pub wordOf : Reading → ℕ
 wordOf (Delay d) = d
 wordOf (Refused r) = 4294967296 + r .number
+
+-- The call for C.
+abbrev pub GivesWord : List ℕ → List ℕ → ℕ → ℕ → ℕ → ℕ → Type 0
+GivesWord starts latencies g H t word = word ≡ wordOf (reading starts latencies g H t)

@@ -5,7 +5,7 @@ ghost use Prim.Native.Nat.{_≤_};
 ghost use lib.ListN.{length, getD};
 ghost use Rattle.table.specs.Anchors.{anchors};
 ghost use Rattle.table.specs.WellFormed.{fitting, measured, spaced, wellFormed};
-ghost use Rattle.table.specs.Reading.{reading, wordOf};
+ghost use Rattle.table.specs.Reading.{reading, GivesWord};
 ghost use Rattle.table.specs.Delays.{LastStart};
 
 const HYPER_LIMIT: u64 = 60000000;
@@ -142,7 +142,7 @@ pub fn read_at(starts: &[u64], latencies: &[u64], g: usize, h: u64, t: u64) -> R
 // Reading for C, one number: the delay, which lies below 2^32, or 2^32 + the refusal's number.
 #[no_mangle]
 pub extern "C" fn mo_read_table(starts: &[u64], latencies: &[u64], g: u64, h: u64, t: u64) -> u64
-    ensures { λ r. ⌜ r ≡ wordOf (reading (now (starts .entry)) (now (latencies .entry)) g h t) ⌝ }
+    ensures { λ r. ⌜ GivesWord (now (starts .entry)) (now (latencies .entry)) g h t r ⌝ }
 {
     let r = read_at(starts, latencies, g as usize, h, t);
     match r {
