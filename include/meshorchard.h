@@ -26,7 +26,7 @@
  * instrument with another processor the calls wait for such a back end; until then they serve hosts, which may work the table out and
  * hand the instrument its anchors.
  *
- * Time. mo_read_table and the figures take one or two passes over the g anchors; mo_check, mo_warm_up, mo_delay and mo_age a few over the
+ * Time. mo_read_table and the figures take one to three passes over the g anchors; mo_check, mo_warm_up, mo_delay and mo_age a few over the
  * places; the calls on files one over the bytes.
  * mo_make_table walks h / T partitions, T being the period at the place of the cut, and a partition costs each place once: with h 60,000,000
  * and twelve places 0.04 ms where the longest period, 78,125, is cut at, and 2.8 s at a place of period 1. Cut at the longest period no
@@ -58,7 +58,7 @@ extern "C" {
 #define MO_STACK_READ_FILE 2432u
 #define MO_STACK_WRITE_FILE 5184u
 #define MO_STACK_CHAIN_OF_SCHEDULE 3136u
-#define MO_STACK_REPORT 19456u
+#define MO_STACK_REPORT 19584u
 
 /*
  * Refusals: the numbers of document 01.
@@ -198,7 +198,7 @@ uint64_t mo_age(const uint64_t *tasks, size_t tasks_length, size_t places, uint6
  * the first g entries of the lists become the anchors' starts and latencies, and the others keep their content. The table is then read
  * by mo_read_table with g and h: at every tick from the warm-up tick to MO_UPPER_TICK it gives the delay that mo_delay gives. Whatever p
  * is, the entries below g are the same, and the greatest latency of the table (mo_greatest) is the greatest delay of mo_delay and 1 more
- * than the greatest age of mo_age. All this is proved.
+ * than the greatest age of mo_age. That is proved of these calls (crates/capi_agreement), and so is what follows.
  *
  * How long the lists must be: g is at most h / T for the period T of any place, so lists of h divided by the longest period always suffice;
  * mo_check gives h.
@@ -289,14 +289,14 @@ uint64_t mo_write_file(const uint64_t *tasks, size_t tasks_length, size_t count,
  * no code but the number of places.
  *
  * The call refuses nothing. Where it finds no chain, what it gives is refused by every call on chains that takes flat, 36 and the answer:
- *   a number that no counted task has gives a task of zeros, which is MO_TASK_OUTSIDE_LIMITS;
+ *   a number that no counted task has, of the first 32, gives a task of zeros, which is MO_TASK_OUTSIDE_LIMITS;
  *   a list that does not hold the counted tasks, and so one whose tasks_length is no multiple of 4, counts as one of no tasks, so every
  *   place gets a task of zeros;
  *   where the list does not hold the counted places, flat is zeros and the answer 0, which is MO_PLACES_OUTSIDE_LIMITS;
  *   more than 12 places are answered as they are, with the tasks at the first twelve: MO_PLACES_OUTSIDE_LIMITS.
- * It looks for no other fault of a schedule: of several tasks with one number the first is taken, numbers that do not rise or are above
- * 65,535 are taken as they are, a task that fills no place is not looked at, and of more than 32 tasks the first 32 are. mo_write_file
- * refuses such schedules.
+ * That is proved. The call looks for no other fault of a schedule: of several tasks with one number the first is taken, numbers that do
+ * not rise or are above 65,535 are taken as they are, the values of a task that fills no place are not looked at, nor are tasks after the
+ * 32nd. mo_write_file refuses all these faults.
  */
 uint64_t mo_chain_of_schedule(const uint64_t *tasks, size_t tasks_length, size_t count,
                               const uint64_t *chain, size_t chain_length, size_t places, uint64_t flat[36]);

@@ -1,6 +1,6 @@
 /*
  * The stack that each call needs, held to the MO_STACK_ numbers of the header: each is run on a stack of its own that is painted before,
- * and what lies below the paint that is left was used. tests/c/run builds and runs it; target/tests/c/stack prints the table by itself.
+ * and what lies above the paint that is left was used. tests/c/run builds and runs it; target/tests/c/stack prints the table by itself.
  */
 #define _XOPEN_SOURCE 700
 #include "meshorchard.h"
@@ -49,12 +49,12 @@ static void put(uint64_t value, int bytes)
     }
 }
 
-/* Thirty-two tasks and a chain of twelve places: the longest file. Two periods with no common divisor have some
- * thousand partitions, and nearly as many anchors. */
+/* Thirty-two tasks and a chain of twelve places: the longest file. The hyperperiod is the greatest there is, and the durations too, so that
+ * the sum of the mean has as many digits as any: a number is written by a call for each digit. */
 static void prepare(void)
 {
     for (size_t i = 0; i < 32; i++) {
-        const uint64_t task[4] = { 65000 + i, i % 2 ? 1009 : 1013, 4000000, 1000000 };
+        const uint64_t task[4] = { 65000 + i, i % 2 ? 768 : 78125, 4000000, 1000000 };
         memcpy(numbered + 4 * i, task, sizeof task);
         put(18, 2), put(1, 2), put(task[0], 2), put(task[1], 4), put(task[2], 4), put(task[3], 4);
     }
@@ -65,6 +65,14 @@ static void prepare(void)
         memcpy(tasks + 3 * i, numbered + 4 * (20 + i) + 1, 3 * sizeof *tasks);
     }
     put(4, 2), put(3, 2);
+}
+
+/* How many digits the sum of the mean has, from the report. */
+static size_t mean_digits(void)
+{
+    const char *line = strstr((const char *)text, "mean ");
+
+    return line ? strspn(line + 5, "0123456789") : 0;
 }
 
 static void nothing(void) { }
@@ -104,7 +112,8 @@ int main(void)
     held("mo_delay", delay, MO_STACK_DELAY);
     held("mo_age", age, MO_STACK_AGE);
     held("mo_make_table", make_table, MO_STACK_MAKE_TABLE);
-    expect("anchors, many and no more than 1,024", figures[0] > 900 && figures[0] <= 1024, 1);
+    expect("hyperperiod", figures[2], 60000000);
+    expect("anchors, many and no more than 1,024", figures[0] > 500 && figures[0] <= 1024, 1);
     held("mo_read_table", read_table, MO_STACK_READ_TABLE);
     held("mo_greatest", greatest, MO_STACK_FIGURES);
     held("mo_low", low, MO_STACK_FIGURES);
@@ -117,5 +126,6 @@ int main(void)
     expect("file written", a, 608);
     held("mo_chain_of_schedule", chain_of_schedule, MO_STACK_CHAIN_OF_SCHEDULE);
     held("mo_report", report, MO_STACK_REPORT);
+    expect("digits of the sum", mean_digits(), 16);
     return counted();
 }
