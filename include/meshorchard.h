@@ -35,7 +35,8 @@
  * longer.) Nothing else that is lent makes a call take long.
  *
  * Stack. What each call needs below its caller's frame, in bytes, is MO_STACK_ below: measured on x86-64 and rounded up, not proved. The C
- * library's memcpy and memset are in it. To measure it again: tests/c/run, which holds the calls to these numbers, then target/tests/c/stack.
+ * library's memcpy and memset are in it, but not the dynamic linker, which a program that binds them at their first call runs there. To
+ * measure it again: tests/c/run, which holds the calls to these numbers, then target/tests/c/stack.
  */
 #ifndef MESHORCHARD_H
 #define MESHORCHARD_H
@@ -198,7 +199,8 @@ uint64_t mo_age(const uint64_t *tasks, size_t tasks_length, size_t places, uint6
  * the first g entries of the lists become the anchors' starts and latencies, and the others keep their content. The table is then read
  * by mo_read_table with g and h: at every tick from the warm-up tick to MO_UPPER_TICK it gives the delay that mo_delay gives. Whatever p
  * is, the entries below g are the same, and the greatest latency of the table (mo_greatest) is the greatest delay of mo_delay and 1 more
- * than the greatest age of mo_age. That is proved of these calls (crates/capi_agreement), and so is what follows.
+ * than the greatest age of mo_age. That is proved of these calls (crates/capi_agreement), and so is that lists of the length
+ * below suffice.
  *
  * How long the lists must be: g is at most h / T for the period T of any place, so lists of h divided by the longest period always suffice;
  * mo_check gives h.

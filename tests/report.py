@@ -236,6 +236,8 @@ def failures():
         os.close(folder)
         yield "./report", ran(["./report"]), (0, text, b"")
         yield "./report of a refused file", ran(["./report", broken.name]), (1, b"refused 1 0\n", b"")
+        yield "./report of a folder", ran(["./report", "/"]), (2, b"", b"chainreport: reading standard input: Is a directory\n")
+        yield "./report of no name", ran(["./report", ""])[:2], (2, b"")
         yield "./report of no file", ran(["./report", broken.name + "-missing"])[:2], (2, b"")
         yield "./report on a full disk", ran(["./report"], stdout=full)[0], 2
 

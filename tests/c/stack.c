@@ -16,7 +16,7 @@
 static _Alignas(64) unsigned char stack[SIZE];
 static ucontext_t here, there;
 
-/* How far below the top of its stack f reached. */
+/* How far below the top of its stack f reached. memcpy and memset are bound by then: this file calls both before. */
 static size_t depth(void (*f)(void))
 {
     size_t untouched = 0;
@@ -99,8 +99,13 @@ static void held(const char *what, void (*f)(void), size_t said)
     size_t empty = depth(nothing), used = depth(f);
     size_t needs = used > empty ? used - empty : 0;
 
-    printf("ok    %s: %zu bytes, the header says %zu\n", what, needs, said);
-    expect(what, needs <= said && said <= needs + 256, 1);
+    if (needs <= said && said <= needs + 256) {
+        passed++;
+        printf("ok    %s: %zu bytes, the header says %zu\n", what, needs, said);
+    } else {
+        failed++;
+        printf("WRONG %s: %zu bytes, the header says %zu\n", what, needs, said);
+    }
 }
 
 int main(void)

@@ -1,7 +1,7 @@
 -- Demand 3 of the calls for C, from their own contracts: from code 0 of mo_make_table, mo_read_table gives at every tick what mo_delay gives (`table-is-walk-for-c`),
 -- two cuts leave the same entries below g (`cuts-agree-for-c`), and mo_greatest's latency is the greatest delay of mo_delay and 1 + the greatest age of mo_age
 -- (`greatest-for-c`). When mo_make_table answers 0 is `completes-for-c`.
-use Prim.Native.Nat.{ℕ, suc, _+_, _*_, _/_, _≤_, _<_}
+use Prim.Native.Nat.{ℕ, _+_, _*_, _/_, _≤_, _<_}
 use native.Mathlib.Omega.{arith}
 use mathlib.Core.Path.{_≡_, refl, sym, ap, _∙_}
 use mathlib.Core.List.{List, [], _∷_}
@@ -15,14 +15,14 @@ use Rattle.chain.specs.Checks.{verdictOf}
 use Rattle.chain.proofs.CheckLaws.{Facts, accepted}
 use Rattle.timing.specs.WarmUp.{warmTick}
 use Rattle.timing.specs.Delay.{delayAt, firstAged, ageAt}
-use Rattle.timing.specs.Answers.{upperTick, delayOf, ageOf}
+use Rattle.timing.specs.Answers.{upperTick}
 use Rattle.timing.specs.Spans.{span-answered}
 use Rattle.table.specs.Reading.{reading, wordOf, GivesWord}
 use Rattle.table.specs.Words.{word-small}
 use Rattle.figures.specs.Figures.{greatestOf}
 use Rattle.maker.specs.declared.Figures.{Figures}
 use Rattle.maker.specs.declared.Made.the-variants as made
-use Rattle.maker.specs.Making.{told, toldAfter, judged, madeOf, Makes}
+use Rattle.maker.specs.Making.{judged, Makes}
 use Rattle.maker.proofs.Exits.{tells-so}
 use Rattle.agreement.specs.Agreement.{SameAnchors, SameGreatest, held, table-is-walk, cuts-agree, greatest-is-delay-and-age}
 use Rattle.agreement.specs.EveryChain.{Asked, room-enough}
