@@ -1,7 +1,7 @@
 -- What the theorems say of the values that the functions answer.
 use Prim.Native.Nat.{ℕ, suc, _+_, _-_, _≤_, _<_}
 use native.Mathlib.Omega.{arith}
-use mathlib.Core.Path.{_≡_, refl, sym, ap, _∙_}
+use mathlib.Core.Path.{_≡_, sym, ap, _∙_}
 use mathlib.Core.List.{List}
 use lib.ListN.{length, getD}
 use borrow.Author.Tests.{le-leb, lt-leb}
@@ -27,7 +27,7 @@ use Rattle.maker.specs.declared.Made.the-variants.{Whole}
 use Rattle.maker.specs.Making.{Makes}
 use Rattle.agreement.specs.Agreement.{SameGreatest, held, table-is-walk, cuts-agree, greatest-is-delay-and-age}
 use Rattle.agreement.specs.Reached.{Reached, anchor-reaches}
-use Rattle.agreement.specs.Answers.{figuresIn, readFrom, greatestFrom, lastBefore, ReadAndWalked, CutTwice, Bounded, NotExceeded, ReachedThere}
+use Rattle.agreement.specs.Answers.{figuresIn, readFrom, greatestFrom, lastBefore, ReadAndWalked, CutTwice, NotExceeded, ReachedThere}
 
 -- ---- the last tick before a write
 

@@ -2,7 +2,7 @@
 -- in any two lists of equal length that hold its g anchors (`completes`). Lists of H / T entries do, T being the period at any place (`room-enough`); the least of these numbers is that of the longest period.
 use Prim.Native.Nat.{ℕ, _-_, _/_, _≤_, _<_}
 use native.Mathlib.Omega.{arith}
-use mathlib.Core.Path.{_≡_, refl, sym, ap, _∙_}
+use mathlib.Core.Path.{_≡_, refl, ap, _∙_}
 use mathlib.Core.List.{List}
 use lib.ListN.{length}
 use borrow.Author.Tests.{le-leb, eq-eqb}

@@ -1,5 +1,5 @@
 -- Code 0 is a success: a refusal has a number of its own.
-use Prim.Native.Nat.{ℕ, zero, suc, _+_, _*_, _-_, _≤_}
+use Prim.Native.Nat.{ℕ, zero, suc, _-_, _≤_}
 use native.Mathlib.Omega.{arith}
 use mathlib.Core.Path.{_≡_, refl}
 use mathlib.Core.Bool.{Bool, true, false, cond, _&&_}
@@ -19,7 +19,6 @@ use Rattle.timing.specs.declared.Span.the-variants.{Ticks, Refused}
 use Rattle.timing.specs.Answers.{upperTick, spanAfter}
 use Rattle.partition.specs.Partitions.{anchorsOf}
 use Rattle.maker.specs.declared.Figures.{Figures}
-use Rattle.maker.specs.declared.Made.{Made}
 use Rattle.maker.specs.declared.Made.the-variants as made
 use Rattle.maker.specs.Making.{afterChecks, judged, figuresOf, madeAfter, madeOf}
 use Rattle.capi_timing.specs.Calls.{verdictCode, verdictHyper, spanCode, spanTicks}

@@ -3,7 +3,7 @@
 -- (`greatest-for-c`). When mo_make_table answers 0 is `completes-for-c`.
 use Prim.Native.Nat.{ℕ, _+_, _*_, _/_, _≤_, _<_}
 use native.Mathlib.Omega.{arith}
-use mathlib.Core.Path.{_≡_, refl, sym, ap, _∙_}
+use mathlib.Core.Path.{_≡_, sym, ap, _∙_}
 use mathlib.Core.List.{List, [], _∷_}
 use lib.ListN.{length, getD}
 use lib.Seq.{getD-take}
@@ -24,7 +24,7 @@ use Rattle.maker.specs.declared.Figures.{Figures}
 use Rattle.maker.specs.declared.Made.the-variants as made
 use Rattle.maker.specs.Making.{judged, Makes}
 use Rattle.maker.proofs.Exits.{tells-so}
-use Rattle.agreement.specs.Agreement.{SameAnchors, SameGreatest, held, table-is-walk, cuts-agree, greatest-is-delay-and-age}
+use Rattle.agreement.specs.Agreement.{SameGreatest, held, table-is-walk, cuts-agree, greatest-is-delay-and-age}
 use Rattle.agreement.specs.EveryChain.{Asked, room-enough}
 use Rattle.capi_chain.specs.FlatChain.{taskAt, chainFrom}
 use Rattle.capi_chain.specs.Front.{chain-at, chain-twelve, places-inside, chain-count, places-given}

@@ -1,7 +1,7 @@
 -- The report of a file that is read: the text of its table, or the one line of 7 or that of 11, both at place 0 (`read-report`).
-use Prim.Native.Nat.{ℕ, _-_, _≤_}
+use Prim.Native.Nat.{ℕ, _-_}
 use native.Mathlib.Omega.{arith}
-use mathlib.Core.Path.{_≡_, refl, sym, ap, _∙_}
+use mathlib.Core.Path.{_≡_, refl, _∙_}
 use mathlib.Core.Bool.{Bool, true, false, cond}
 use mathlib.Core.List.{List}
 use lib.Dec.{leb}
@@ -13,7 +13,7 @@ use Rattle.chain.specs.declared.Verdict.{Verdict}
 use Rattle.chain.specs.declared.Verdict.the-variants as verdict
 use Rattle.chain.specs.Chains.{tasksOf}
 use Rattle.chain.specs.Hyperperiod.{hyperOf}
-use Rattle.chain.specs.Checks.{hyperVerdict, verdictOf}
+use Rattle.chain.specs.Checks.{hyperVerdict}
 use Rattle.little_endian.specs.LittleEndian.{Bytes}
 use Rattle.schedule.specs.Schedules.{chainOf}
 use Rattle.schedule.specs.ChainTasks.{chain-length, chain-twelve}
