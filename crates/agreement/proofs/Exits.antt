@@ -24,10 +24,10 @@ use Rattle.figures.specs.Figures.{greatestOf}
 use Rattle.maker.specs.declared.Figures.{Figures}
 use Rattle.maker.specs.declared.Made.{Made}
 use Rattle.maker.specs.declared.Made.the-variants.{Whole}
-use Rattle.maker.specs.Making.{Makes}
+use Rattle.maker.specs.Making.{told, Makes}
 use Rattle.agreement.specs.Agreement.{SameGreatest, held, table-is-walk, cuts-agree, greatest-is-delay-and-age}
 use Rattle.agreement.specs.Reached.{Reached, anchor-reaches}
-use Rattle.agreement.specs.Answers.{figuresIn, readFrom, greatestFrom, lastBefore, ReadAndWalked, CutTwice, NotExceeded, ReachedThere}
+use Rattle.agreement.specs.Answers.{readFrom, greatestFrom, lastBefore, ReadAndWalked, CutTwice, NotExceeded, ReachedThere}
 
 -- ---- the last tick before a write
 
@@ -50,31 +50,35 @@ module _ (c : Chain) (twelve : length (c .tasks) ≡ 12) (p : ℕ) (s v s′ v�
   agreed : (f : Figures) → m ≡ Whole f → SameGreatest c s′ v′ f
   agreed f whole = greatest-is-delay-and-age c twelve p s v s′ v′ f (made f whole)
 
-  -- i holds the figures that making gave
-  module _ (i : Figures) (given : i ≡ figuresIn m) where
-    pub both-delays : (t : ℕ) (x : Reading) → x ≡ reading s′ v′ (i .anchors) (i .hyperperiod) t → (w : Span) → w ≡ delayOf c t
+  -- g and H are those that making told
+  module _ (g H : ℕ) (given : (g ≡ told m .anchors) × (H ≡ told m .hyperperiod)) where
+    -- anything that is had with them
+    with-told : {A : Type 0} (f : ℕ → ℕ → A) → f g H ≡ f (told m .anchors) (told m .hyperperiod)
+    with-told f = ap (λ (x : ℕ). f x H) (given .0) ∙ ap (f (told m .anchors)) (given .1)
+
+    pub both-delays : (t : ℕ) (x : Reading) → x ≡ reading s′ v′ g H t → (w : Span) → w ≡ delayOf c t
         → ReadAndWalked c p t s v s′ v′ (record { made = m; read = x; walked = w })
     both-delays t x e w d =
-        let read : x ≡ readFrom m s′ v′ t = e ∙ ap (λ (f : Figures). reading s′ v′ (f .anchors) (f .hyperperiod) t) given in
+        let read : x ≡ readFrom m s′ v′ t = e ∙ with-told (λ (x y : ℕ). reading s′ v′ x y t) in
         record {
           makes = makes;
           reads = read;
           walks = d;
           agree = λ f whole low high.
               let a = table-is-walk c twelve p s v s′ v′ f (made f whole) t low high in
-              record { delay = a .delay; is-walked = d ∙ a .walked; is-read = read ∙ ap (λ (n : Made). readFrom n s′ v′ t) whole ∙ a .read };
+              record { delay = a .delay; walked = d ∙ a .walked; read = read ∙ ap (λ (n : Made). readFrom n s′ v′ t) whole ∙ a .read };
         }
 
     -- x is the greatest latency as it was answered
-    module _ (x : Greatest) (e : x ≡ greatestOf s′ v′ (i .anchors) (i .hyperperiod)) where
+    module _ (x : Greatest) (e : x ≡ greatestOf s′ v′ g H) where
       pub greatest-given : x ≡ greatestFrom m s′ v′
-      greatest-given = e ∙ ap (λ (f : Figures). greatestOf s′ v′ (f .anchors) (f .hyperperiod)) given
+      greatest-given = e ∙ with-told (greatestOf s′ v′)
 
       is-greatest : (f : Figures) (whole : m ≡ Whole f) → x ≡ Latency (agreed f whole .latency)
       is-greatest f whole = greatest-given ∙ ap (λ (n : Made). greatestFrom n s′ v′) whole ∙ agreed f whole .answered
 
-      within : (f : Figures) (whole : m ≡ Whole f) (t z n : ℕ) → delayOf c t ≡ Ticks n → n ≤ agreed f whole .latency
-      within f whole t z n d =
+      within : (f : Figures) (whole : m ≡ Whole f) (t n : ℕ) → delayOf c t ≡ Ticks n → n ≤ agreed f whole .latency
+      within f whole t n d =
           let k = span-answered (verdictOf c) (warmTick (tasksOf c)) t (delayAt (tasksOf c) t) n d in
           omega (arith, k .is, agreed f whole .greatest-delay .bound t (omega (arith, k .early, held c twelve p s v s′ v′ f (made f whole) .tick)) (k .late))
 
@@ -93,7 +97,7 @@ module _ (c : Chain) (twelve : length (c .tasks) ≡ 12) (p : ℕ) (s v s′ v�
         agree = λ f whole. record {
           latency = agreed f whole .latency;
           is-greatest = is-greatest f whole;
-          delay-within = λ n q. within f whole t z n (sym d ∙ q);
+          delay-within = λ n q. within f whole t n (sym d ∙ q);
           age-within = λ n q. age-within f whole z n (sym a ∙ q);
         };
       }

@@ -8,17 +8,18 @@ use mathlib.Core.List.{List, [], _∷_}
 use lib.ListN.{length, getD, length-map}
 use borrow.Author.Tests.{le-ltb}
 use Rattle.chain.specs.declared.Chain.{Chain}
-use Rattle.chain.specs.declared.Verdict.the-variants as verdict
 use Rattle.chain.specs.Chains.{tasksOf}
 use Rattle.chain.specs.Hyperperiod.{hyperOf}
+use Rattle.timing.specs.declared.Span.{Span}
 use Rattle.timing.specs.declared.Span.the-variants.{Ticks}
 use Rattle.timing.specs.WarmUp.{warmTick}
 use Rattle.timing.specs.Delay.{delayAt, firstAged, ageAt}
-use Rattle.timing.specs.Answers.{upperTick, delayOf, ageOf, spanAfter}
+use Rattle.timing.specs.Answers.{upperTick, delayOf, ageOf}
+use Rattle.timing.specs.Spans.{span-there}
 use Rattle.table.specs.Anchors.{Anchor, anchors}
+use Rattle.table.specs.declared.Reading.{Reading}
 use Rattle.table.specs.declared.Reading.the-variants.{Delay}
 use Rattle.table.specs.WellFormed.{wellFormed}
-use Rattle.table.specs.Reading as table
 use Rattle.table.specs.Reading.{reading}
 use Rattle.table.specs.Figures.{greatest}
 use Rattle.figures.specs.declared.Greatest.the-variants.{Latency}
@@ -31,12 +32,16 @@ use Rattle.agreement.specs.ReadsAsWalk.{table-walk}
 use Rattle.agreement.specs.GreatestAge.{GreatestWithin, greatest-delay-is, greatest-age-is}
 use Rattle.agreement.specs.MadeTable.{Completed, done, starts-are, latencies-are, made-anchors, made-first, made-well-formed}
 
--- "For every accepted chain, every place at which its table is cut and every tick from the warm-up tick to the upper tick, the delay read from
--- the completed table equals the delay that the forward walk gives at that tick." Neither call refuses.
-pub record SameDelay (c : Chain) (starts latencies : List ℕ) (f : Figures) (t : ℕ) : Type 0 where
+-- A delay walked and a delay read are one number; neither is refused.
+pub record SameTicks (span : Span) (reading : Reading) : Type 0 where
   pub delay : ℕ
-  pub walked : delayOf c t ≡ Ticks delay
-  pub read : reading starts latencies (f .anchors) (f .hyperperiod) t ≡ Delay delay
+  pub walked : span ≡ Ticks delay
+  pub read : reading ≡ Delay delay
+
+-- "For every accepted chain, every place at which its table is cut and every tick from the warm-up tick to the upper tick, the delay read from
+-- the completed table equals the delay that the forward walk gives at that tick."
+abbrev pub SameDelay : Chain → List ℕ → List ℕ → Figures → ℕ → Type 0
+SameDelay c starts latencies f t = SameTicks (delayOf c t) (reading starts latencies (f .anchors) (f .hyperperiod) t)
 
 -- "Whichever two places the chain is cut at, its anchors are the same in number and, one by one, in start and latency."
 pub record SameAnchors (starts latencies starts″ latencies″ : List ℕ) (f f″ : Figures) : Type 0 where
@@ -67,8 +72,7 @@ module _ (c : Chain) (twelve : length (c .tasks) ≡ 12) where
     held = done c twelve p s v s′ v′ f makes
 
     pub walks : (t : ℕ) → f .tick .0 ≤ t → t ≤ upperTick → delayOf c t ≡ Ticks (delayAt (tasksOf c) t)
-    unfolding spanAfter
-    walks t low high = rw (held .whole, le-ltb t (warmTick (tasksOf c)) (omega (arith, held .tick)), le-ltb upperTick t high)
+    walks t low high = rw (held .whole) (span-there (hyperOf (tasksOf c)) (warmTick (tasksOf c)) t (delayAt (tasksOf c) t) (omega (arith, held .tick)) high)
 
     reads : (t : ℕ) → f .tick .0 ≤ t → t ≤ upperTick → reading s′ v′ (f .anchors) (f .hyperperiod) t ≡ Delay (delayAt (tasksOf c) t)
     unfolding reading
@@ -84,8 +88,7 @@ module _ (c : Chain) (twelve : length (c .tasks) ≡ 12) where
         (ap Delay (table-walk (tasksOf c) (held .sound) t (omega (arith, held .tick))))
 
     ages : (z : ℕ) → firstAged (tasksOf c) ≤ z → z ≤ upperTick → ageOf c z ≡ Ticks (ageAt (tasksOf c) z)
-    unfolding spanAfter
-    ages z low high = rw (held .whole, le-ltb z (firstAged (tasksOf c)) low, le-ltb upperTick z high)
+    ages z low high = rw (held .whole) (span-there (hyperOf (tasksOf c)) (firstAged (tasksOf c)) z (ageAt (tasksOf c) z) low high)
 
     answers : greatestOf s′ v′ (f .anchors) (f .hyperperiod) ≡ Latency (greatest (canonical (tasksOf c) (hyperOf (tasksOf c))))
     unfolding greatestOf

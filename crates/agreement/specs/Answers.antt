@@ -10,39 +10,26 @@ use Rattle.timing.specs.declared.Span.{Span}
 use Rattle.timing.specs.declared.Span.the-variants.{Ticks}
 use Rattle.timing.specs.Answers.{upperTick, delayOf, ageOf}
 use Rattle.table.specs.declared.Reading.{Reading}
-use Rattle.table.specs.declared.Reading.the-variants.{Delay}
 use Rattle.table.specs.Reading.{reading}
 use Rattle.figures.specs.declared.Greatest.{Greatest}
 use Rattle.figures.specs.declared.Greatest.the-variants.{Latency}
 use Rattle.figures.specs.Figures.{greatestOf}
 use Rattle.maker.specs.declared.Figures.{Figures}
 use Rattle.maker.specs.declared.Made.{Made}
-use Rattle.maker.specs.declared.Made.the-variants.{Whole, Short, Refused}
-use Rattle.maker.specs.Making.{Makes}
+use Rattle.maker.specs.declared.Made.the-variants.{Whole}
+use Rattle.maker.specs.Making.{told, Makes}
 use Rattle.agreement.specs.declared.Delays.{Delays}
 use Rattle.agreement.specs.declared.Cuts.{Cuts}
 use Rattle.agreement.specs.declared.Bounds.{Bounds}
 use Rattle.agreement.specs.declared.Peak.{Peak}
-use Rattle.agreement.specs.Agreement.{SameAnchors}
+use Rattle.agreement.specs.Agreement.{SameTicks, SameAnchors}
 
--- The figures that making gave, with which its table is read: g and H also under 11, zeros in another refusal.
-abbrev pub figuresIn : Made → Figures
-figuresIn (Whole f) = f
-figuresIn (Short f) = f
-figuresIn (Refused r) = record { anchors = 0; tick = record { 0 = 0 }; hyperperiod = 0; walked = 0 }
-
--- The delay read from a table that making left, and its greatest latency.
+-- The delay read from a table that making left, with the g and H that it told, and the greatest latency of that table.
 abbrev pub readFrom : Made → List ℕ → List ℕ → ℕ → Reading
-readFrom m starts latencies t = reading starts latencies (figuresIn m .anchors) (figuresIn m .hyperperiod) t
+readFrom m starts latencies t = reading starts latencies (told m .anchors) (told m .hyperperiod) t
 
 abbrev pub greatestFrom : Made → List ℕ → List ℕ → Greatest
-greatestFrom m starts latencies = greatestOf starts latencies (figuresIn m .anchors) (figuresIn m .hyperperiod)
-
--- A delay walked and a delay read are one number; neither is refused.
-pub record SameTicks (walked : Span) (read : Reading) : Type 0 where
-  pub delay : ℕ
-  pub is-walked : walked ≡ Ticks delay
-  pub is-read : read ≡ Delay delay
+greatestFrom m starts latencies = greatestOf starts latencies (told m .anchors) (told m .hyperperiod)
 
 -- `table_is_walk`: making, reading and walking; at every tick from x0 to the upper tick a completed table gives what the walk gives.
 pub record ReadAndWalked (c : Chain) (p t : ℕ) (starts latencies starts′ latencies′ : List ℕ) (r : Delays) : Type 0 where

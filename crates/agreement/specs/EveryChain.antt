@@ -34,7 +34,7 @@ pub record Asked (c : Chain) (p h a b : ℕ) : Type 0 where
 abbrev pub anchorCount : Chain → ℕ → ℕ → ℕ
 anchorCount c p h = length (anchorsOf (tasksOf c) (p - 1) h)
 
-module _ (c : Chain) (twelve : length (c .tasks) ≡ 12) (p h a b : ℕ) (asked : Asked c p h a b) where
+module _ (c : Chain) (p h a b : ℕ) (asked : Asked c p h a b) where
   judges : judged c p a b ≡ verdict.Accepted h
   unfolding judged
   judges = rw (asked .accepted, le-leb 1 p (asked .low), le-leb p (c .places) (asked .high), eq-eqb a b (asked .equal))
@@ -45,8 +45,8 @@ module _ (c : Chain) (twelve : length (c .tasks) ≡ 12) (p h a b : ℕ) (asked 
   completes enough = ap (madeAfter c p a) judges ∙ rw (le-leb (anchorCount c p h) a enough)
 
   -- g is at most the number of partitions walked at any place i, counted from 0,
-  pub count-few : (i : ℕ) → i < c .places → anchorCount c p h ≤ h / at (tasksOf c) i .period
-  count-few i l =
+  pub count-few : length (c .tasks) ≡ 12 → (i : ℕ) → i < c .places → anchorCount c p h ≤ h / at (tasksOf c) i .period
+  count-few twelve i l =
       let k : Facts c h = accepted c h twelve (asked .accepted) in
       let n : length (tasksOf c) ≡ c .places = k .passes .counted in
       let few = few-anchors (tasksOf c) (k .passes .sound) (p - 1) i (omega (arith, asked .low, asked .high)) (omega arith) in
@@ -54,8 +54,8 @@ module _ (c : Chain) (twelve : length (c .tasks) ≡ 12) (p h a b : ℕ) (asked 
       rw own (omega (arith, range-length (warmAt (tasksOf c) i) (hyperOf (tasksOf c) / at (tasksOf c) i .period)))
 
   -- so lists of that many entries are enough.
-  pub room-enough : (i : ℕ) → i < c .places → h / at (tasksOf c) i .period ≤ a → madeOf c p a b ≡ Whole (figuresOf c p h)
-  room-enough i l room = completes (omega (arith, count-few i l))
+  pub room-enough : length (c .tasks) ≡ 12 → (i : ℕ) → i < c .places → h / at (tasksOf c) i .period ≤ a → madeOf c p a b ≡ Whole (figuresOf c p h)
+  room-enough twelve i l room = completes (omega (arith, count-few twelve i l))
 
 -- What the third demand says of one table: it is completed, and what is read from it at every tick and its greatest latency are as the walk and the age have it.
 pub record Agreed (c : Chain) (starts latencies : List ℕ) (r : Made) (f : Figures) : Type 0 where
@@ -67,7 +67,7 @@ pub record Agreed (c : Chain) (starts latencies : List ℕ) (r : Made) (f : Figu
 module _ (c : Chain) (twelve : length (c .tasks) ≡ 12) (h : ℕ) where
   module _ (p : ℕ) (s v s′ v′ : List ℕ) (r : Made) (asked : Asked c p h (length s) (length v)) (enough : anchorCount c p h ≤ length s) (makes : Makes c p s v s′ v′ r) where
     whole : r ≡ Whole (figuresOf c p h)
-    whole = makes .answer ∙ completes c twelve p h (length s) (length v) asked enough
+    whole = makes .answer ∙ completes c p h (length s) (length v) asked enough
 
     made : Makes c p s v s′ v′ (Whole (figuresOf c p h))
     made = rw whole at makes

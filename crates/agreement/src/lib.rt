@@ -9,11 +9,12 @@ use task::Tick;
 use timing::Span;
 ghost use mathlib.Core.Path.{_≡_};
 ghost use lib.ListN.{getD};
-ghost use Rattle.agreement.specs.Answers.{figuresIn, lastBefore, ReadAndWalked, CutTwice, NotExceeded, ReachedThere};
+ghost use Rattle.maker.specs.Making.{told};
+ghost use Rattle.agreement.specs.Answers.{lastBefore, ReadAndWalked, CutTwice, NotExceeded, ReachedThere};
 
-// The figures with which the table that making left is read: zeros where making was refused.
-fn figures_in(m: Made) -> Figures
-    ensures { λ r. ⌜ r ≡ figuresIn m ⌝ }
+// The figures that making told, with which its table is read: g and H also under 11, zeros in another refusal.
+fn told_figures(m: Made) -> Figures
+    ensures { λ r. ⌜ (r .anchors ≡ told m .anchors) × (r .hyperperiod ≡ told m .hyperperiod) ⌝ }
 {
     match m {
         Made::Whole(f) => f,
@@ -45,7 +46,7 @@ pub fn table_is_walk(
     ensures { λ r. ⌜ ReadAndWalked c p (t .0) (now (starts .entry)) (now (latencies .entry)) (now (starts .exit)) (now (latencies .exit)) r ⌝ }
 {
     let made = maker::make_table(c, p, starts, latencies);
-    let f = figures_in(made);
+    let f = told_figures(made);
     let read = table::read_at(starts, latencies, f.anchors, f.hyperperiod, t.0);
     let walked = timing::delay(c, t);
     Delays { made, read, walked }
@@ -94,7 +95,7 @@ pub fn greatest_not_exceeded(
     ensures { λ r. ⌜ NotExceeded c p (t .0) (z .0) (now (starts .entry)) (now (latencies .entry)) (now (starts .exit)) (now (latencies .exit)) r ⌝ }
 {
     let made = maker::make_table(c, p, starts, latencies);
-    let f = figures_in(made);
+    let f = told_figures(made);
     let greatest = figures::greatest_of(starts, latencies, f.anchors, f.hyperperiod);
     let delay = timing::delay(c, t);
     let age = timing::age(c, z);
@@ -153,7 +154,7 @@ pub fn greatest_reached(
     ensures { λ r. ⌜ ReachedThere c p i (now (starts .entry)) (now (latencies .entry)) (now (starts .exit)) (now (latencies .exit)) r ⌝ }
 {
     let made = maker::make_table(c, p, starts, latencies);
-    let f = figures_in(made);
+    let f = told_figures(made);
     let greatest = figures::greatest_of(starts, latencies, f.anchors, f.hyperperiod);
     let start = entry(starts, i);
     let latency = entry(latencies, i);

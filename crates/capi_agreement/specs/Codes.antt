@@ -1,58 +1,33 @@
 -- Code 0 is a success: a refusal has a number of its own.
-use Prim.Native.Nat.{ℕ, zero, suc, _-_, _≤_}
+use Prim.Native.Nat.{ℕ, _-_}
 use native.Mathlib.Omega.{arith}
 use mathlib.Core.Path.{_≡_, refl}
-use mathlib.Core.Bool.{Bool, true, false, cond, _&&_}
-use mathlib.Core.List.{List}
-use lib.Dec.{leb, ltb, eqb}
+use mathlib.Core.Bool.{Bool, true, false, cond}
+use lib.Dec.{leb, ltb}
 use lib.ListN.{length}
 use Rattle.refusal.specs.Refusals.{refusal}
-use Rattle.task.specs.declared.Task.{Task}
 use Rattle.chain.specs.declared.Chain.{Chain}
 use Rattle.chain.specs.declared.Verdict.{Verdict}
 use Rattle.chain.specs.declared.Verdict.the-variants as verdict
 use Rattle.chain.specs.Chains.{tasksOf}
-use Rattle.chain.specs.Hyperperiod.{hyperOf}
-use Rattle.chain.specs.Checks.{firstFault, afterFault, hyperVerdict, verdictFor, verdictOf}
+use Rattle.chain.specs.Checks.{verdictOf}
+use Rattle.chain.proofs.CheckLaws.{SmallVerdict, verdict-small}
 use Rattle.timing.specs.declared.Span.{Span}
 use Rattle.timing.specs.declared.Span.the-variants.{Ticks, Refused}
 use Rattle.timing.specs.Answers.{upperTick, spanAfter}
 use Rattle.partition.specs.Partitions.{anchorsOf}
 use Rattle.maker.specs.declared.Figures.{Figures}
 use Rattle.maker.specs.declared.Made.the-variants as made
-use Rattle.maker.specs.Making.{afterChecks, judged, figuresOf, madeAfter, madeOf}
+use Rattle.maker.specs.Making.{judged, figuresOf, madeAfter, madeOf}
 use Rattle.capi_timing.specs.Calls.{verdictCode, verdictHyper, spanCode, spanTicks}
 use Rattle.capi_maker.specs.Calls.{madeCode}
-
--- a refusal has a number
-abbrev Numbered : Verdict → Type 0
-Numbered (verdict.Accepted h) = Unit {0}
-Numbered (verdict.Refused r) = 1 ≤ r .number
-
-checks-numbered : (n : ℕ) (l : List Task) → Numbered (verdictFor n l)
-unfolding verdictFor hyperVerdict
-checks-numbered n l = go (leb 1 n && leb n 12) (firstFault 1 l) (leb (hyperOf l) 60000000)
-  where
-    go : (a : Bool) (f : ℕ) (d : Bool) → Numbered (cond a (afterFault f (cond d (verdict.Accepted (hyperOf l)) (verdict.Refused (refusal 7 0)))) (verdict.Refused (refusal 8 0)))
-    go true zero true = tt
-    go true zero false = omega arith
-    go true (suc p) d = omega arith
-    go false f d = omega arith
-
-after-numbered : (v : Verdict) → Numbered v → (places p a b : ℕ) → Numbered (afterChecks v places p a b)
-after-numbered (verdict.Refused r) k places p a b = k
-after-numbered (verdict.Accepted h) k places p a b = go (leb 1 p && leb p places) (eqb a b)
-  where
-    go : (x y : Bool) → Numbered (cond x (cond y (verdict.Accepted h) (verdict.Refused (refusal 10 0))) (verdict.Refused (refusal 9 0)))
-    go true true = tt
-    go true false = omega arith
-    go false y = omega arith
+use Rattle.capi_maker.proofs.Gives.{after-small}
 
 -- mo_check: code 0 is an accepted chain.
 pub check-zero : (c : Chain) → verdictCode (verdictOf c) ≡ 0 → verdictOf c ≡ verdict.Accepted (verdictHyper (verdictOf c))
-check-zero c = go (verdictOf c) (checks-numbered (c .places) (tasksOf c))
+check-zero c = go (verdictOf c) (verdict-small c)
   where
-    go : (v : Verdict) → Numbered v → verdictCode v ≡ 0 → v ≡ verdict.Accepted (verdictHyper v)
+    go : (v : Verdict) → SmallVerdict v → verdictCode v ≡ 0 → v ≡ verdict.Accepted (verdictHyper v)
     go (verdict.Accepted h) k e = refl
     go (verdict.Refused r) k e = absurd (omega arith)
 
@@ -60,7 +35,7 @@ check-zero c = go (verdictOf c) (checks-numbered (c .places) (tasksOf c))
 pub span-zero : (c : Chain) (from t span : ℕ) → spanCode (spanAfter (verdictOf c) from t span) ≡ 0
     → spanAfter (verdictOf c) from t span ≡ Ticks (spanTicks (spanAfter (verdictOf c) from t span))
 unfolding spanAfter
-span-zero c from t span = go (verdictOf c) (checks-numbered (c .places) (tasksOf c))
+span-zero c from t span = go (verdictOf c) (verdict-small c)
   where
     answer : Bool → Bool → Span
     answer a b = cond a (Refused (refusal 12 0)) (cond b (Refused (refusal 13 0)) (Ticks span))
@@ -70,7 +45,7 @@ span-zero c from t span = go (verdictOf c) (checks-numbered (c .places) (tasksOf
     tick false true e = absurd (omega arith)
     tick false false e = refl
 
-    go : (v : Verdict) → Numbered v → spanCode (spanAfter v from t span) ≡ 0 → spanAfter v from t span ≡ Ticks (spanTicks (spanAfter v from t span))
+    go : (v : Verdict) → SmallVerdict v → spanCode (spanAfter v from t span) ≡ 0 → spanAfter v from t span ≡ Ticks (spanTicks (spanAfter v from t span))
     go (verdict.Accepted h) k e = tick (ltb t from) (ltb upperTick t) e
     go (verdict.Refused r) k e = absurd (omega arith)
 
@@ -81,9 +56,9 @@ pub record Whole (c : Chain) (p a b : ℕ) : Type 0 where
 
 pub made-zero : (c : Chain) (p a b : ℕ) → madeCode (madeOf c p a b) ≡ 0 → Whole c p a b
 unfolding judged madeAfter
-made-zero c p a b = go (judged c p a b) refl (after-numbered (verdictOf c) (checks-numbered (c .places) (tasksOf c)) (c .places) p a b)
+made-zero c p a b = go (judged c p a b) refl (after-small (verdictOf c) (verdict-small c) (c .places) p a b)
   where
-    go : (v : Verdict) → judged c p a b ≡ v → Numbered v → madeCode (madeAfter c p a v) ≡ 0 → Whole c p a b
+    go : (v : Verdict) → judged c p a b ≡ v → SmallVerdict v → madeCode (madeAfter c p a v) ≡ 0 → Whole c p a b
     go (verdict.Refused r) j k e = absurd (omega arith)
     go (verdict.Accepted h) j k e = fits (leb (length (anchorsOf (tasksOf c) (p - 1) h)) a) refl e
       where

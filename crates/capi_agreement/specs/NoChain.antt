@@ -1,17 +1,17 @@
 -- What mo_chain_of_schedule gives where it finds no chain is refused by every call on chains that takes flat, 36 and the answer:
 -- with 8 where the number of places is wrong or the list does not hold them (`places-refused`), with 5 where a place's number is that of no counted task (`unknown-refused`)
 -- or the list does not hold the counted tasks (`tasks-refused`). What a call refuses is said of its own contract (`RefusedByAll`).
-use Prim.Native.Nat.{ℕ, zero, suc, _+_, _≤_, _<_}
+use Prim.Native.Nat.{ℕ, _≤_, _<_}
 use native.Mathlib.Omega.{arith}
+use native.Mathlib.Decide.{decLt}
 use mathlib.Core.Path.{_≡_, refl, sym, ap, _∙_}
-use mathlib.Core.Bool.{Bool, true, false, cond}
+use mathlib.Core.Bool.{false}
 use mathlib.Core.List.{List, [], _∷_, map}
-use lib.ListN.{length, take, getD, replicate}
-use lib.Seq.{getD-take, length-take-le}
+use lib.ListN.{length, take, getD, replicate, List·getD-map}
+use lib.Seq.{getD-take}
 use Rattle.refusal.specs.declared.Refusal.{Refusal}
 use Rattle.refusal.specs.Refusals.{refusal, codeOf}
 use Rattle.task.specs.declared.Task.{Task}
-use Rattle.task.specs.Jobs.{withinLimits}
 use Rattle.chain.specs.declared.Chain.{Chain}
 use Rattle.chain.specs.declared.Verdict.{Verdict}
 use Rattle.chain.specs.declared.Verdict.the-variants.{Refused}
@@ -20,7 +20,7 @@ use Rattle.chain.specs.Entries.{entries-length, entries-at}
 use Rattle.chain.specs.Checks.{firstFault, verdictOf}
 use Rattle.chain.specs.Flat.{flatChain}
 use Rattle.chain.specs.StandsFor.{eight}
-use Rattle.chain.proofs.CheckLaws.{check-fault}
+use Rattle.chain.proofs.CheckLaws.{sound, check-fault}
 use Rattle.schedule.specs.declared.Schedule.{Schedule}
 use Rattle.schedule.specs.Schedules.{numberOf, tasksIn, placesIn, known, taskNumbered, chainOf}
 use Rattle.schedule.specs.ChainTasks.{unknown-zero, chain-tasks, chain-length, chain-twelve}
@@ -77,26 +77,6 @@ refused-by-all c r e = record {
 
 -- ---- where a schedule has no chain
 
--- a task outside its limits is a fault
-fault-found : (l : List Task) (p i : ℕ) → 1 ≤ p → i < length l → withinLimits (at l i) ≡ false → 1 ≤ firstFault p l
-unfolding firstFault
-fault-found [] p i pos h w = absurd (omega arith)
-fault-found (a ∷ l) p zero pos h w = rw w pos
-fault-found (a ∷ l) p (suc i) pos h w = go (withinLimits a) (fault-found l (p + 1) i (omega arith) (omega arith) w)
-  where
-    go : (b : Bool) → 1 ≤ firstFault (p + 1) l → 1 ≤ cond b (firstFault (p + 1) l) p
-    go true k = k
-    go false k = pos
-
-map-at : {A B : Type 0} (f : A → B) (l : List A) (i : ℕ) (a : A) (b : B) → i < length l → getD (map f l) i b ≡ f (getD l i a)
-map-at f [] i a b h = absurd (omega arith)
-map-at f (x ∷ l) zero a b h = refl
-map-at f (x ∷ l) (suc i) a b h = map-at f l i a b (omega arith)
-
-zero-outside : withinLimits zeroTask ≡ false
-unfolding withinLimits
-zero-outside = refl
-
 -- What mo_chain_of_schedule gives, by its contract.
 module _ (tasks : List ℕ) (count : ℕ) (chain : List ℕ) (places answer : ℕ) (flat : List ℕ) (gives : GivesChain (scheduleFrom tasks count chain places) answer flat) where
   abbrev s : Schedule
@@ -123,11 +103,18 @@ module _ (tasks : List ℕ) (count : ℕ) (chain : List ℕ) (places answer : �
   unknown-refused i h few unknown =
       let long : length (s .chain) ≡ 12 = entries-length (placeAt chain) 0 12 in
       let n : length (tasksOf (chainOf s)) ≡ s .places = chain-length s long few in
-      let m : length (placesIn s) ≡ s .places = length-take-le (s .places) (s .chain) (omega arith) in
-      let number : getD (placesIn s) i 0 ≡ placeAt chain i = getD-take (s .places) (s .chain) i 0 h ∙ entries-at (placeAt chain) 0 12 i (omega arith) in
+      let number : ℕ = placeAt chain i in
+      let zeros = unknown-zero (tasksIn s) number unknown in
+      let there : getD (placesIn s) i number ≡ number = getD-take (s .places) (s .chain) i number h ∙ entries-at (placeAt chain) number 12 i (omega arith) in
       let here : at (tasksOf (chainOf s)) i ≡ zeroTask =
-      ap (λ (l : List Task). at l i) (chain-tasks s long few) ∙ map-at (taskNumbered (tasksIn s)) (placesIn s) i 0 zeroTask (omega arith) ∙ ap (taskNumbered (tasksIn s)) number ∙ unknown-zero (tasksIn s) (placeAt chain i) unknown in
-      let fault = fault-found (tasksOf (chainOf s)) 1 i (omega arith) (omega arith) (ap withinLimits here ∙ zero-outside) in
+      ap (λ (l : List Task). at l i) (chain-tasks s long few) ∙ ap (getD (map (taskNumbered (tasksIn s)) (placesIn s)) i) (sym zeros)
+      ∙ List·getD-map (taskNumbered (tasksIn s)) (placesIn s) i number ∙ ap (taskNumbered (tasksIn s)) there ∙ zeros in
+      let fault : 1 ≤ firstFault 1 (tasksOf (chainOf s)) = elim (decLt (firstFault 1 (tasksOf (chainOf s))) 1) [
+        | no g ↦ omega arith
+        | yes g ↦
+            let w = sound (tasksOf (chainOf s)) (omega arith) (omega arith) (omega arith) .each i (omega arith) .period-pos in
+            absurd (omega (arith, ap (λ (t : Task). t .period) here))
+      ] in
       let e = check-fault (s .places) (tasksOf (chainOf s)) (omega arith) few (firstFault 1 (tasksOf (chainOf s))) refl (λ z. omega arith) in
       (fault, refused-by-all (chainFrom flat answer) _ (ap verdictOf (same ∙ chain-given-back (chainOf s) (chain-twelve s long few) few) ∙ sym e))
 

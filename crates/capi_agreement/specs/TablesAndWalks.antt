@@ -184,4 +184,4 @@ module _ (tasks : List ℕ) (places : ℕ) where
     completes-for-c p i s v low high equal l room code′ s′ v′ figures table =
         let asked : Asked c p h (length s) (length v) = record { accepted = is-accepted; low = low; high = omega (arith, places-are); equal = equal } in
         let enough : h / at (tasksOf c) i .period ≤ length s = rw (period-at i l) room in
-        table .answers ∙ ap madeCode (room-enough c twelve p h (length s) (length v) asked i (omega (arith, places-are)) enough)
+        table .answers ∙ ap madeCode (room-enough c p h (length s) (length v) asked twelve i (omega (arith, places-are)) enough)

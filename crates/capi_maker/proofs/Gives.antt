@@ -29,20 +29,20 @@ gives c p s l s′ l′ m makes code numbers a b = record {
   leaves-latencies = makes .leaves-latencies;
 }
 
-after-small : (v : Verdict) → SmallVerdict v → (places p a b : ℕ) → SmallVerdict (afterChecks v places p a b)
+pub after-small : (v : Verdict) → SmallVerdict v → (places p a b : ℕ) → SmallVerdict (afterChecks v places p a b)
 after-small (verdict.Refused r) s places p a b = s
 after-small (verdict.Accepted h) s places p a b = go (leb 1 p && leb p places) (eqb a b)
   where
     go : (x y : Bool) → SmallVerdict (cond x (cond y (verdict.Accepted h) (verdict.Refused (refusal 10 0))) (verdict.Refused (refusal 9 0)))
     go true true = tt
-    go true false = (omega arith, omega arith)
-    go false y = (omega arith, omega arith)
+    go true false = (omega arith, omega arith, omega arith)
+    go false y = (omega arith, omega arith, omega arith)
 
 refused-small : (c : Chain) (p a : ℕ) (v : Verdict) → SmallVerdict v → (r : Refusal) → Refused r ≡ madeAfter c p a v → (r .number < 256) × (r .place ≤ 1000000000)
 unfolding madeAfter
 refused-small c p a (verdict.Refused x) s r e =
     let q : x ≡ r = cc in
-    let k : (r .number < 256) × (r .place ≤ 100) = subst (λ (y : Refusal). (y .number < 256) × (y .place ≤ 100)) q s in
+    let k : SmallVerdict (verdict.Refused r) = subst (λ (y : Refusal). SmallVerdict (verdict.Refused y)) q s in
     (k .0, omega (arith, k .1))
 refused-small c p a (verdict.Accepted h) s r e = go (leb (length (anchorsOf (tasksOf c) (p - 1) h)) a) e
   where

@@ -22,7 +22,7 @@ use Rattle.capi_timing.specs.Calls.{SmallSpan}
 
 span-small : (v : Verdict) → SmallVerdict v → (from t span : ℕ) → SmallSpan (spanAfter v from t span)
 unfolding spanAfter
-span-small (verdict.Refused r) s from t span = s
+span-small (verdict.Refused r) s from t span = (s .0, s .1)
 span-small (verdict.Accepted h) s from t span = go (ltb t from) (ltb 1000000000000 t)
   where
     go : (a b : Bool) → SmallSpan (cond a (Refused (refusal 12 0)) (cond b (Refused (refusal 13 0)) (Ticks span)))

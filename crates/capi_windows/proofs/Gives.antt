@@ -36,11 +36,11 @@ after-small (verdict.Accepted h) s k = go (leb 1 k && leb k 100)
   where
     go : (x : Bool) → SmallVerdict (cond x (verdict.Accepted h) (verdict.Refused (refusal 15 0)))
     go true = tt
-    go false = (omega arith, omega arith)
+    go false = (omega arith, omega arith, omega arith)
 
 told-small : (c : Chain) (B k j : ℕ) (v : Verdict) → SmallVerdict v → (toldAfter (tasksOf c) B k j v .number < 256) × (toldAfter (tasksOf c) B k j v .place ≤ 100)
 unfolding toldAfter
-told-small c B k j (verdict.Refused r) s = s
+told-small c B k j (verdict.Refused r) s = (s .0, s .1)
 told-small c B k j (verdict.Accepted h) s = (omega arith, omega arith)
 
 pub code-fits : (c : Chain) (B k : ℕ) (w : Windows) (r : Refusal) → Answers c B k w → w ≡ Refused r → (r .number < 256) × (r .place ≤ 1000000000)

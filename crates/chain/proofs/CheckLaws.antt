@@ -137,7 +137,7 @@ rest-periods l ok i p h =
     let e : length (drop i l) ≡ length l - i = length-drop i l in
     rw (getD-drop i l p zeroTask) (ok .each (i + p) (omega arith) .period-pos)
 
--- ---- a refusal's number and place are small
+-- ---- a refusal has a number, and its number and place are small
 
 -- a fault's position is one of the list's
 fault-small : (l : List Task) (p : ℕ) → firstFault p l ≤ p + length l
@@ -151,7 +151,7 @@ fault-small (a ∷ l) p = go (withinLimits a) (fault-small l (p + 1))
 
 abbrev pub SmallVerdict : Verdict → Type 0
 SmallVerdict (Accepted h) = Unit {0}
-SmallVerdict (Refused r) = (r .number < 256) × (r .place ≤ 100)
+SmallVerdict (Refused r) = (r .number < 256) × (r .place ≤ 100) × (1 ≤ r .number)
 
 pub verdict-small : (c : Chain) → SmallVerdict (verdictOf c)
 unfolding verdictFor hyperVerdict
@@ -160,9 +160,9 @@ verdict-small c = go (leb 1 (c .places)) (leb (c .places) 12) (firstFault 1 (tas
     go : (a b : Bool) (f : ℕ) (d : Bool) → leb (c .places) 12 ≡ b → f ≤ 1 + length (tasksOf c)
         → SmallVerdict (cond (a && b) (afterFault f (cond d (Accepted (hyperOf (tasksOf c))) (Refused (refusal 7 0)))) (Refused (refusal 8 0)))
     go true true zero true e h = tt
-    go true true zero false e h = (omega arith, omega arith)
+    go true true zero false e h = (omega arith, omega arith, omega arith)
     go true true (suc p) d e h =
         let n : c .places ≤ 12 = leb-true (c .places) 12 e in
-        (omega arith, omega (arith, length-take (c .places) (c .tasks)))
-    go true false f d e h = (omega arith, omega arith)
-    go false b f d e h = (omega arith, omega arith)
+        (omega arith, omega (arith, length-take (c .places) (c .tasks)), omega arith)
+    go true false f d e h = (omega arith, omega arith, omega arith)
+    go false b f d e h = (omega arith, omega arith, omega arith)

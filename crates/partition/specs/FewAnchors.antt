@@ -13,7 +13,7 @@ use Rattle.chain.specs.Hyperperiod.{hyperOf}
 use Rattle.timing.specs.WarmUp.{warmAt}
 use Rattle.partition.specs.Lists.{put, keep, fresh, dropRepeats}
 use Rattle.partition.specs.Partitions.{endOf, keeps, anchorOf, anchorsFrom, anchorsOf, rangeOf}
-use Rattle.partition.specs.Selections.{range-length, select, select-length, keep-select}
+use Rattle.partition.specs.Selections.{range-length, select-length, keep-select}
 use Rattle.partition.specs.CutFree.{cut-free}
 
 fresh-length : (e : ℕ → ℕ) (p : ℕ) (l : List ℕ) → length (fresh e p l) ≤ length l

@@ -9,7 +9,6 @@ use lib.ListN.{length}
 use borrow.Author.Tests.{eq-eqb}
 use Rattle.refusal.specs.Refusals.{refusal}
 use Rattle.chain.specs.declared.Chain.{Chain}
-use Rattle.chain.specs.declared.Verdict.{Verdict}
 use Rattle.chain.specs.declared.Verdict.the-variants as verdict
 use Rattle.chain.specs.Chains.{tasksOf}
 use Rattle.chain.specs.Hyperperiod.{hyperOf}
@@ -38,18 +37,18 @@ pub data TableOrRefusal (text : List ℕ) : Type 0 where
 -- what making in so many slots gives of a chain whose hyperperiod alone is judged
 hyper-text : (slots : ℕ) (c : Chain) (p : ℕ) → TableOrRefusal (judgedText slots c p (hyperVerdict (tasksOf c)))
 unfolding hyperVerdict madeAfter writtenAfter madeText
-hyper-text slots c p = go (leb h 60000000) (leb (length (anchorsOf (tasksOf c) (p - 1) h)) slots)
+hyper-text slots c p = go (leb h 60000000)
   where
     h : ℕ
     h = hyperOf (tasksOf c)
 
-    go : (x y : Bool) → TableOrRefusal (judgedText slots c p (cond x (verdict.Accepted h) (verdict.Refused (refusal 7 0))))
-    go true y = short (leb (length (anchorsOf (tasksOf c) (p - 1) h)) slots)
+    go : (x : Bool) → TableOrRefusal (judgedText slots c p (cond x (verdict.Accepted h) (verdict.Refused (refusal 7 0))))
+    go true = short (leb (length (anchorsOf (tasksOf c) (p - 1) h)) slots)
       where
         short : (z : Bool) → TableOrRefusal (madeText (cond z (Whole (figuresOf c p h)) (Short (figuresOf c p h))) (anchorsOf (tasksOf c) (p - 1) h))
         short true = table (figuresOf c p h) (anchorsOf (tasksOf c) (p - 1) h) refl
         short false = eleven refl
-    go false y = seven refl
+    go false = seven refl
 
 pub read-report : (b : List ℕ) → Bytes b → readFile b .refusal .number ≡ 0 → TableOrRefusal (reportOf b)
 unfolding fileText chainText

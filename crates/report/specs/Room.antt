@@ -17,4 +17,4 @@ longest-room c twelve p h a b asked room =
     let k : Facts c h = accepted c h twelve (asked .accepted) in
     let some = k .passes .sound .some in
     let l = longest-place (tasksOf c) some in
-    room-enough c twelve p h a b asked (longestPlace (tasksOf c) - 1) (omega (arith, l .some, l .inside, k .passes .counted)) (rw (longest-is (tasksOf c) some) room)
+    room-enough c p h a b asked twelve (longestPlace (tasksOf c) - 1) (omega (arith, l .some, l .inside, k .passes .counted)) (rw (longest-is (tasksOf c) some) room)

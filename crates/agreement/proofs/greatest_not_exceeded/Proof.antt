@@ -7,8 +7,8 @@ use Rattle.agreement.proofs.greatest_not_exceeded.Tie as tie
 make-table-requires : tie.Need-make-table-requires
 make-table-requires c κs = search needs
 
-figures-in-requires : tie.Need-figures-in-requires
-figures-in-requires c κs = search needs
+told-figures-requires : tie.Need-told-figures-requires
+told-figures-requires c κs = search needs
 
 greatest-of-requires : tie.Need-greatest-of-requires
 greatest-of-requires c κs = search needs
@@ -27,14 +27,14 @@ same-length-2 c = search needs
 
 returns : tie.Need-returns
 returns c =
-    bounded (c .before .before .before .before .before .before .before .before .before .before .before .before .before .before .before .args .c) (simp length-map at (c .before .before .before .before .before .before .before .before .before .before .before .before .before .before .before .good .0 .1 .1 .0 .1 .0 .1)) _ _ _ _ _ _ (c .before .before .before .before .before .before .before .before .before .before .make-table .ensures) _ (c .before .before .before .before .before .figures-in .ensures) _ (c .before .before .greatest-of .ensures) _ _ _ _ (c .before .delay .ensures) (c .age .ensures)
+    bounded (c .before .before .before .before .before .before .before .before .before .before .before .before .before .before .before .args .c) (simp length-map at (c .before .before .before .before .before .before .before .before .before .before .before .before .before .before .before .good .0 .1 .1 .0 .1 .0 .1)) _ _ _ _ _ _ (c .before .before .before .before .before .before .before .before .before .before .make-table .ensures) _ _ (c .before .before .before .before .before .told-figures .ensures) _ (c .before .before .greatest-of .ensures) _ _ _ _ (c .before .delay .ensures) (c .age .ensures)
 
 pub greatest-not-exceeded-spec : {M : Type 1} → statement M
 greatest-not-exceeded-spec =
     tie.close
     (tie.spec
     make-table-requires
-    figures-in-requires
+    told-figures-requires
     greatest-of-requires
     delay-requires
     age-requires

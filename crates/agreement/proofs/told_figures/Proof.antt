@@ -1,7 +1,7 @@
 use mathlib.Core.Path.{refl}
 use borrow.Author.Needs.{needs}
-use Rattle.agreement.proofs.figures_in.Statement.{statement}
-use Rattle.agreement.proofs.figures_in.Tie as tie
+use Rattle.agreement.proofs.told_figures.Statement.{statement}
+use Rattle.agreement.proofs.told_figures.Tie as tie
 
 enum-known-m : tie.Need-enum-known-m
 enum-known-m c = search needs
@@ -19,8 +19,8 @@ returns-2 : tie.Need-returns-2
 returns-2 c = search needs
 
 returns-3 : tie.Need-returns-3
-returns-3 c = rw (c .enum-told .given .1) refl
+returns-3 c = rw (c .enum-told .given .1) (refl, refl)
 
-pub figures-in-spec : {M : Type 1} → statement M
-figures-in-spec =
+pub told-figures-spec : {M : Type 1} → statement M
+told-figures-spec =
     tie.close (tie.spec enum-known-m enum-known-m-2 enum-told returns returns-2 returns-3)
