@@ -41,8 +41,9 @@ use Rattle.figures.specs.Figures.{delaySum, exceedance, greatestOf, lowOf, mean
 use Rattle.partition.specs.Lists.{rangeFrom, keep, fresh, dropRepeats}
 use Rattle.partition.specs.Partitions.{startOf, endOf, keeps, anchorsFrom}
 use Rattle.maker.specs.Making.{judged, madeAfter, madeOf, writtenAfter, writtenOf, startsOf, latenciesOf, told}
+use Rattle.ranges.specs.Largest.{largest}
 use Rattle.windows.specs.Windows as window
-use Rattle.windows.specs.Windows.{spanOf, misses, missesIn, largest, windowOf, mostMisses}
+use Rattle.windows.specs.Windows.{spanOf, misses, missesIn, windowOf, mostMisses}
 
 -- ---- the chains
 

@@ -9,10 +9,11 @@ use lib.ListN.{length, getD, set, length-set}
 use lib.Seq.{getD-set-same, getD-set-other}
 use borrow.Author.Tests.{lt-ltb, le-ltb}
 use Rattle.task.specs.declared.Job.{Job}
+use Rattle.ranges.specs.Largest.{largest}
+use Rattle.ranges.specs.LargestLaws.{largest-top, largest-least}
 use Rattle.windows.specs.declared.Best.{Best}
-use Rattle.windows.specs.Windows.{one, largest}
+use Rattle.windows.specs.Windows.{one}
 use Rattle.windows.specs.Slide.{Ring, nextIn, betterOf, Top}
-use Rattle.windows.specs.Sliding.{largest-top, largest-least}
 
 module _ (miss : ℕ → Bool) where
   -- an entry after a store: the flag of job m at i, else what it was

@@ -15,27 +15,8 @@ use Rattle.chain.specs.Multiples.{hyper-times, from-pos}
 use Rattle.chain.specs.Checks.{Sound}
 use Rattle.timing.specs.WarmUp.{warmAt}
 use Rattle.timing.specs.Period.{walk-period}
-use Rattle.windows.specs.Windows.{spanOf, misses, one, missesIn, largest, starts, windowOf, mostMisses, First}
-use Rattle.windows.specs.Sliding.{largest-top}
-
--- f has its largest among the n numbers from s on
-record Reached (f : ℕ → ℕ) (s n : ℕ) : Type 0 where
-  at-job : ℕ
-  low : s ≤ at-job
-  high : at-job < s + n
-  is : f at-job ≡ largest f s n
-
-reached : (f : ℕ → ℕ) (n s : ℕ) → 1 ≤ n → Reached f s n
-unfolding largest
-reached f zero s h = absurd (omega arith)
-reached f (suc zero) s h = record { at-job = s; low = omega arith; high = omega arith; is = omega arith }
-reached f (suc (suc n)) s h = go (reached f (suc n) (suc s) (omega arith))
-  where
-    go : Reached f (suc s) (suc n) → Reached f s (suc (suc n))
-    go r = elim (decLe (largest f (suc s) (suc n)) (f s)) [
-      | yes g ↦ record { at-job = s; low = omega arith; high = omega arith; is = omega arith }
-      | no g ↦ record { at-job = r .at-job; low = omega (arith, r .low); high = omega (arith, r .high); is = r .is ∙ omega arith }
-    ]
+use Rattle.ranges.specs.LargestLaws.{largest-top, reached}
+use Rattle.windows.specs.Windows.{spanOf, misses, one, missesIn, starts, windowOf, mostMisses, First}
 
 -- ---- of a chain that passes the checks 8 and 5
 
@@ -102,4 +83,4 @@ module _ (l : List Task) (ok : Sound l) where
     unfolding mostMisses
     largest-reached k =
         let r = reached (windowOf l B k) (starts l) (warmAt l 0 + 1) starts-pos in
-        record { job = r .at-job; is = record { after = r .low; within = omega (arith, r .high); has = r .is } }
+        record { job = r .number; is = record { after = r .low; within = omega (arith, r .high); has = r .is } }

@@ -1,11 +1,9 @@
--- How the number of misses in a window changes when the window slides by a job, and the largest of successive numbers.
-use Prim.Native.Nat.{ℕ, zero, suc, _+_, _-_, _≤_, _<_}
+-- How the number of misses in a window changes when the window slides by a job.
+use Prim.Native.Nat.{ℕ, zero, suc, _+_, _-_, _≤_}
 use native.Mathlib.Omega.{arith}
-use native.Mathlib.Nat.{le-max-left, le-max-right}
-use native.Mathlib.Decide.{decLt}
 use mathlib.Core.Path.{_≡_, refl}
 use mathlib.Core.Bool.{Bool, true, false}
-use Rattle.windows.specs.Windows.{one, missesIn, largest}
+use Rattle.windows.specs.Windows.{one, missesIn}
 
 pub one-small : (t : Bool) → one t ≤ 1
 one-small true = omega arith
@@ -41,24 +39,3 @@ module _ (miss : ℕ → Bool) where
   unfolding missesIn
   at-most zero s = omega arith
   at-most (suc k) s = omega (arith, one-small (miss s), at-most k (suc s))
-
--- ---- the largest
-
-module _ (f : ℕ → ℕ) where
-  -- no number of the range has more,
-  pub largest-top : (n s x : ℕ) → s ≤ x → x < s + n → f x ≤ largest f s n
-  unfolding largest
-  largest-top zero s x a b = absurd (omega arith)
-  largest-top (suc n) s x a b = elim (decLt s x) [
-    | yes h ↦ omega (arith, largest-top n (suc s) x h (omega arith), le-max-right (f s) (largest f (suc s) n))
-    | no h ↦ let e : x ≡ s = omega arith in rw e (le-max-left (f s) (largest f (suc s) n))
-  ]
-
-  -- and it is the least number of which that holds.
-  pub largest-least : (n s m : ℕ) → ((x : ℕ) → s ≤ x → x < s + n → f x ≤ m) → largest f s n ≤ m
-  unfolding largest
-  largest-least zero s m h = omega arith
-  largest-least (suc n) s m h =
-      let a : f s ≤ m = h s (omega arith) (omega arith) in
-      let b : largest f (suc s) n ≤ m = largest-least n (suc s) m (λ x u v. h x (omega arith) (omega arith)) in
-      omega arith

@@ -1,5 +1,5 @@
 -- Document 01, "Windows of jobs": the jobs that miss, the largest number of misses in k successive jobs, and what the call answers.
-use Prim.Native.Nat.{ℕ, zero, suc, _+_, _-_, _/_, _≤_, max}
+use Prim.Native.Nat.{ℕ, zero, suc, _+_, _-_, _/_, _≤_}
 use mathlib.Core.Path.{_≡_}
 use mathlib.Core.Bool.{Bool, true, false, cond, _&&_}
 use mathlib.Core.List.{List}
@@ -15,6 +15,7 @@ use Rattle.chain.specs.Hyperperiod.{hyperOf}
 use Rattle.chain.specs.Checks.{verdictOf}
 use Rattle.chain.specs.StandsFor.{StandsFor}
 use Rattle.timing.specs.WarmUp.{warmAt}
+use Rattle.ranges.specs.Largest.{largest}
 use Rattle.windows.specs.declared.Windows.{Windows}
 use Rattle.windows.specs.declared.Windows.the-variants.{Most, Refused}
 
@@ -35,11 +36,6 @@ one false = 0
 unfoldable pub missesIn : (ℕ → Bool) → ℕ → ℕ → ℕ
 missesIn miss s zero = 0
 missesIn miss s (suc k) = one (miss s) + missesIn miss (suc s) k
-
--- The largest of f at the n numbers from s on.
-unfoldable pub largest : (ℕ → ℕ) → ℕ → ℕ → ℕ
-largest f s zero = 0
-largest f s (suc n) = max (f s) (largest f (suc s) n)
 
 -- How many first jobs of windows are looked at: H / T1, T1 being the first place's period.
 abbrev pub starts : List Task → ℕ
