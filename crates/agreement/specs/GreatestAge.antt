@@ -5,7 +5,6 @@ use native.Mathlib.Nat.{div-add-mod', mod-lt}
 use native.Mathlib.Decide.{decLt}
 use native.Mathlib.Omega.{arith}
 use mathlib.Core.Path.{_≡_, refl, sym, ap, _∙_}
-use mathlib.Core.Logic.{_↔_}
 use mathlib.Core.List.{List}
 use Rattle.task.specs.declared.Task.{Task}
 use Rattle.task.specs.declared.Latest.{Latest}
@@ -16,10 +15,10 @@ use Rattle.task.specs.LinkLaws.{AtLeast, after-less, read-mono, latest-is}
 use Rattle.chain.specs.Chains.{at, lastPlace, onLatest, walk, back, jobOf}
 use Rattle.chain.specs.Checks.{Sound}
 use Rattle.chain.specs.Hyperperiod.{hyperOf}
-use Rattle.chain.specs.Galois.{galois}
+use Rattle.chain.specs.Multiples.{hyper-pos}
 use Rattle.timing.specs.WarmUp.{warmLast, warmAt, warmTick}
 use Rattle.timing.specs.Delay.{delayAt, firstAged, ageAt}
-use Rattle.timing.specs.WarmLaws.{found, at-least-job, periods, warm-walk, aged, back-there}
+use Rattle.timing.specs.WarmLaws.{found, at-least-job, way, walk-mono, warm-walk, aged, back-there}
 use Rattle.timing.specs.WarmRanges.{warm-range}
 use Rattle.timing.specs.Period.{delay-periods}
 use Rattle.table.specs.Anchors.{firstStart}
@@ -27,7 +26,7 @@ use Rattle.table.specs.Reading as table
 use Rattle.table.specs.Figures.{greatest}
 use Rattle.table.specs.GreatestDelay.{GreatestFrom, greatest-delay}
 use Rattle.partition.specs.CutFree.{endWalk, canonical, write-less}
-use Rattle.agreement.specs.Jobs.{walk-mono, walk-warm, walk-next, walk-after, hyper-pos, end-after, latency-fits, delay-read, read-warm}
+use Rattle.agreement.specs.Jobs.{walk-warm, walk-next, walk-after, end-after, latency-fits, delay-read, read-warm}
 use Rattle.agreement.specs.ReadsAsWalk.{canonical-cons, table-walk}
 use Rattle.agreement.specs.WellSpaced.{read-less, canonical-formed}
 
@@ -59,11 +58,6 @@ module _ (l : List Task) (ok : Sound l) (small : hyperOf l ≤ 60000000) where
 
   last-pos : 1 ≤ at l (lastPlace l) .period
   last-pos = ok .each (lastPlace l) (omega (arith, ok .some)) .period-pos
-
-  way : (j m : ℕ) → (walk l j ≤ m) ↔ AtLeast (back l m) j
-  way =
-      let z : 0 + lastPlace l ≡ lastPlace l = omega arith in
-      galois l 0 (lastPlace l) (rw z (periods l ok (lastPlace l) (omega (arith, ok .some))))
 
   first-start : firstStart (canonical l (hyperOf l)) ≡ warmTick l
   unfolding warmTick
@@ -128,14 +122,14 @@ module _ (l : List Task) (ok : Sound l) (small : hyperOf l ≤ 60000000) where
       let i : ℕ = b .job .0 in
       let far : k < walk l (suc i) = elim (decLt k (walk l (suc i))) [
         | yes g ↦ g
-        | no g ↦ let a : AtLeast (Of (b .job)) (suc i) = rw (b .is) at (way (suc i) k .0 (omega arith)) in absurd (omega arith)
+        | no g ↦ let a : AtLeast (Of (b .job)) (suc i) = rw (b .is) at (way l ok (suc i) k .0 (omega arith)) in absurd (omega arith)
       ] in
       let soon : z < writeOf (at l (lastPlace l)) (suc k) = elim (decLt z (writeOf (at l (lastPlace l)) (suc k))) [
         | yes g ↦ g
         | no g ↦ absurd (omega (arith, at-least-job (latestBy (at l (lastPlace l)) z) (suc k) (latest-is (at l (lastPlace l)) last-pos z (suc k) .0 (omega arith)), ap jobOf (f .is)))
       ] in
       let warm : warmAt l 0 ≤ i =
-      let a : AtLeast (Of (b .job)) (warmAt l 0) = rw (b .is) at (way (warmAt l 0) k .0 (omega (arith, walk-warm l ok, warm-walk l ok))) in a in
+      let a : AtLeast (Of (b .job)) (warmAt l 0) = rw (b .is) at (way l ok (warmAt l 0) k .0 (omega (arith, walk-warm l ok, warm-walk l ok))) in a in
       let e : endWalk l (suc i) ≡ writeOf (at l (lastPlace l)) (walk l (suc i)) = refl in
       omega (arith, age-of z k i (f .is) (b .is), read-bound i warm, end-after l ok (suc i), read-mono (at l 0) i (suc i) (omega arith), read-mono (at l (lastPlace l)) (suc k) (walk l (suc i)) far)
 
@@ -207,7 +201,7 @@ module _ (l : List Task) (ok : Sound l) (small : hyperOf l ≤ 60000000) where
         let w = write-less (at l (lastPlace l)) last-pos k (suc k) (omega arith) in
         let e = exact (latestBy (at l (lastPlace l)) z) k (latest-is (at l (lastPlace l)) last-pos z k .0 (omega arith))
         (λ a. let b = latest-is (at l (lastPlace l)) last-pos z (suc k) .1 a in omega (arith, u-early)) in
-        let f = exact (back l k) j (way j k .0 (omega (arith, j-new))) (λ a. let b = way (suc j) k .1 a in omega arith) in
+        let f = exact (back l k) j (way l ok j k .0 (omega (arith, j-new))) (λ a. let b = way l ok (suc j) k .1 a in omega arith) in
         rw peak-is (omega (arith, age-of z k j e f, u-delay, u-early, u-reads))
 
     -- and it is a tick that has an age.

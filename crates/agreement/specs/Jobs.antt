@@ -12,12 +12,11 @@ use Rattle.task.specs.LinkLaws.{after-less, read-mono, forward-link-mono, forwa
 use Rattle.chain.specs.Chains.{at, lastPlace, forwardBy, walk}
 use Rattle.chain.specs.Checks.{Sound}
 use Rattle.chain.specs.Hyperperiod.{hyperOf}
-use Rattle.chain.specs.Galois.{Periods}
-use Rattle.chain.specs.GaloisPair.{countBack, pair, f-mono, warm-same, warm-next}
-use Rattle.chain.specs.Multiples.{from-pos, hyper-times}
+use Rattle.chain.specs.GaloisPair.{countBack, pair, warm-same, warm-next}
+use Rattle.chain.specs.Multiples.{hyper-pos, hyper-times}
 use Rattle.timing.specs.WarmUp.{warmAt, warmTick}
 use Rattle.timing.specs.Delay.{delayAt}
-use Rattle.timing.specs.WarmLaws.{periods, warm-count}
+use Rattle.timing.specs.WarmLaws.{all-periods, walk-mono, warm-count}
 use Rattle.timing.specs.WarmRanges.{walk-late}
 use Rattle.partition.specs.Selections.{differ, differ-so}
 use Rattle.partition.specs.CutFree.{endWalk, write-less}
@@ -51,24 +50,15 @@ module _ (l : List Task) (ok : Sound l) where
   last : Within (at l (lastPlace l))
   last = ok .each (lastPlace l) (omega (arith, ok .some))
 
-  all : Periods l (0 + lastPlace l)
-  all = let e : 0 + lastPlace l ≡ lastPlace l = omega arith in rw e (periods l ok (lastPlace l) (omega (arith, ok .some)))
-
-  pub walk-mono : (i j : ℕ) → i ≤ j → walk l i ≤ walk l j
-  walk-mono = f-mono (walk l) (countBack l 0 (lastPlace l)) (pair l 0 (lastPlace l) all)
-
   -- W1's way ends where job 0's does, and that of the job after W1 later
   pub walk-warm : walk l (warmAt l 0) ≡ walk l 0
-  walk-warm = warm-same (walk l) (countBack l 0 (lastPlace l)) (pair l 0 (lastPlace l) all) (warmAt l 0) (warm-count l ok)
+  walk-warm = warm-same (walk l) (countBack l 0 (lastPlace l)) (pair l 0 (lastPlace l) (all-periods l ok)) (warmAt l 0) (warm-count l ok)
 
   pub walk-next : walk l 0 < walk l (suc (warmAt l 0))
-  walk-next = warm-next (walk l) (countBack l 0 (lastPlace l)) (pair l 0 (lastPlace l) all) (warmAt l 0) (warm-count l ok)
+  walk-next = warm-next (walk l) (countBack l 0 (lastPlace l)) (pair l 0 (lastPlace l) (all-periods l ok)) (warmAt l 0) (warm-count l ok)
 
   pub walk-after : (j : ℕ) → warmAt l 0 ≤ j → walk l 0 < walk l (suc j)
-  walk-after j h = omega (arith, walk-next, walk-mono (suc (warmAt l 0)) (suc j) (omega arith))
-
-  pub hyper-pos : 1 ≤ hyperOf l
-  hyper-pos = from-pos l 1 (omega arith) (λ p h. ok .each p h .period-pos)
+  walk-after j h = omega (arith, walk-next, walk-mono l ok (suc (warmAt l 0)) (suc j) (omega arith))
 
   pub hyper-first : hyperOf l / at l 0 .period * at l 0 .period ≡ hyperOf l
   hyper-first = hyper-times l 0 (ok .some)
@@ -77,7 +67,7 @@ module _ (l : List Task) (ok : Sound l) where
   pub some-job : 1 ≤ hyperOf l / at l 0 .period
   some-job = elim (decLt 0 (hyperOf l / at l 0 .period)) [
     | yes h ↦ h
-    | no h ↦ let z : hyperOf l / at l 0 .period ≡ 0 = omega arith in omega (arith, ap (λ (x : ℕ). x * at l 0 .period) z, hyper-first, hyper-pos)
+    | no h ↦ let z : hyperOf l / at l 0 .period ≡ 0 = omega arith in omega (arith, ap (λ (x : ℕ). x * at l 0 .period) z, hyper-first, hyper-pos l ok)
   ]
 
   -- the walk from a job ends after its read

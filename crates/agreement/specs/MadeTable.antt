@@ -13,6 +13,7 @@ use Rattle.chain.specs.declared.Verdict.the-variants as verdict
 use Rattle.chain.specs.Chains.{tasksOf, at}
 use Rattle.chain.specs.Checks.{verdictOf, Sound}
 use Rattle.chain.specs.Hyperperiod.{hyperOf}
+use Rattle.chain.specs.Multiples.{hyper-pos}
 use Rattle.chain.proofs.CheckLaws.{Facts, accepted}
 use Rattle.task.specs.Jobs.{readOf}
 use Rattle.timing.specs.WarmUp.{warmAt, warmTick}
@@ -26,7 +27,6 @@ use Rattle.maker.specs.declared.Figures.{Figures}
 use Rattle.maker.specs.declared.Made.the-variants.{Whole, Short, Refused}
 use Rattle.maker.specs.Making.{judged, figuresOf, madeAfter, madeOf, writtenAfter, startsOf, latenciesOf, overlay, Makes}
 use Rattle.maker.proofs.Exits.{Well, well}
-use Rattle.agreement.specs.Jobs.{hyper-pos}
 use Rattle.agreement.specs.ReadsAsWalk.{firstAnchor, otherAnchors, canonical-cons}
 use Rattle.agreement.specs.WellSpaced.{canonical-spaced}
 

@@ -15,6 +15,7 @@ use Rattle.task.specs.LinkLaws.{after-less, read-mono}
 use Rattle.chain.specs.Chains.{at}
 use Rattle.chain.specs.Checks.{Sound}
 use Rattle.chain.specs.Hyperperiod.{hyperOf}
+use Rattle.chain.specs.Multiples.{hyper-pos}
 use Rattle.timing.specs.WarmUp.{warmAt, warmTick}
 use Rattle.timing.specs.Delay.{delayAt}
 use Rattle.timing.specs.Period.{delay-periods}
@@ -25,7 +26,7 @@ use Rattle.partition.specs.Lists.{put}
 use Rattle.partition.specs.Selections.{differ-false, select, select-length}
 use Rattle.partition.specs.CanonicalAnchors.{endsLater, anchorAt, canonicalFrom}
 use Rattle.partition.specs.CutFree.{endWalk, canonical}
-use Rattle.agreement.specs.Jobs.{hyper-pos, hyper-first, some-job, first-new}
+use Rattle.agreement.specs.Jobs.{hyper-first, some-job, first-new}
 
 module _ (w readAt : ℕ → ℕ) (rise : (i j : ℕ) → i ≤ j → readAt i ≤ readAt j) where
   -- anchors that start past the tick are not taken

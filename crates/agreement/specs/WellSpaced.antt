@@ -10,6 +10,7 @@ use Rattle.task.specs.Jobs.{readOf}
 use Rattle.chain.specs.Chains.{at}
 use Rattle.chain.specs.Checks.{Sound}
 use Rattle.chain.specs.Hyperperiod.{hyperOf}
+use Rattle.chain.specs.Multiples.{hyper-pos}
 use Rattle.timing.specs.WarmUp.{warmAt}
 use Rattle.table.specs.WellFormed.{latencyLimit}
 use Rattle.table.specs.Segments.{Spaced, Formed}
@@ -17,7 +18,7 @@ use Rattle.partition.specs.Lists.{put}
 use Rattle.partition.specs.Selections.{differ-false, select}
 use Rattle.partition.specs.CanonicalAnchors.{endsLater, anchorAt}
 use Rattle.partition.specs.CutFree.{endWalk, canonical}
-use Rattle.agreement.specs.Jobs.{hyper-pos, hyper-first, some-job, end-after, latency-fits}
+use Rattle.agreement.specs.Jobs.{hyper-first, some-job, end-after, latency-fits}
 use Rattle.agreement.specs.ReadsAsWalk.{firstAnchor, otherAnchors, canonical-cons}
 
 pub read-less : (a : Task) → 1 ≤ a .period → (i j : ℕ) → i < j → readOf a i < readOf a j

@@ -10,6 +10,7 @@ use Rattle.euclid.specs.Divisor.{lcmOf}
 use Rattle.euclid.specs.LeastMultiple.{lcm-left, lcm-right, lcm-least, lcm-pos, lcm-ge}
 use Rattle.chain.specs.Chains.{at}
 use Rattle.chain.specs.Hyperperiod.{hyperFrom, hyperOf}
+use Rattle.chain.specs.Checks.{Sound}
 
 -- it is a multiple of what it starts from,
 from-divides : (l : List Task) (h : ℕ) → h ∣ hyperFrom h l
@@ -32,10 +33,14 @@ from-least (a ∷ l) h m pos w d all =
     from-least l (lcmOf h (a .period)) m (lcm-pos h (a .period) pos (w 0 (omega arith))) (λ p g. w (suc p) (omega arith))
     (lcm-least h (a .period) m pos d (all 0 (omega arith))) (λ p g. all (suc p) (omega arith))
 
-pub from-pos : (l : List Task) (h : ℕ) → 1 ≤ h → ((p : ℕ) → p < length l → 1 ≤ at l p .period) → 1 ≤ hyperFrom h l
+from-pos : (l : List Task) (h : ℕ) → 1 ≤ h → ((p : ℕ) → p < length l → 1 ≤ at l p .period) → 1 ≤ hyperFrom h l
 unfolding hyperFrom
 from-pos [] h pos w = pos
 from-pos (a ∷ l) h pos w = from-pos l (lcmOf h (a .period)) (lcm-pos h (a .period) pos (w 0 (omega arith))) (λ p g. w (suc p) (omega arith))
+
+-- of a chain that passes 8 and 5 it is at least 1
+pub hyper-pos : (l : List Task) → Sound l → 1 ≤ hyperOf l
+hyper-pos l ok = from-pos l 1 (omega arith) (λ p h. ok .each p h .period-pos)
 
 -- the fold only grows
 pub from-ge : (l : List Task) (h : ℕ) → ((p : ℕ) → p < length l → 1 ≤ at l p .period) → h ≤ hyperFrom h l

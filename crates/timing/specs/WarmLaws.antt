@@ -18,7 +18,7 @@ use Rattle.task.specs.Links.{backwardLink, latestBy}
 use Rattle.task.specs.LinkLaws.{latest-is}
 use Rattle.timing.specs.Delay.{firstAged}
 use Rattle.chain.specs.Galois.{Periods, galois, forward-cut, backward-cut}
-use Rattle.chain.specs.GaloisPair.{countBack, countOf}
+use Rattle.chain.specs.GaloisPair.{countBack, countOf, forward-mono}
 
 -- ---- a job that is there
 
@@ -34,9 +34,9 @@ pub at-least-job : (q : Latest) (j : ℕ) → AtLeast q j → j ≤ jobOf q
 at-least-job (Of i) j h = h
 at-least-job Nothing j h = absurd h
 
-job-at-least : (q : Latest) → AtLeast q 0 → AtLeast q (jobOf q)
-job-at-least (Of i) h = omega arith
-job-at-least Nothing h = absurd h
+pub job-at-least : (q : Latest) (j : ℕ) → AtLeast q j → AtLeast q (jobOf q)
+job-at-least (Of i) j h = omega arith
+job-at-least Nothing j h = absurd h
 
 is-job : (q : Latest) → AtLeast q 0 → isJob q ≡ true
 is-job (Of i) h = refl
@@ -68,11 +68,15 @@ module _ (l : List Task) (ok : Sound l) where
   whole : Periods l (lastPlace l)
   whole = periods (lastPlace l) (omega (arith, ok .some))
 
-  all : Periods l (0 + lastPlace l)
-  all = let e : 0 + lastPlace l ≡ lastPlace l = omega arith in rw e whole
+  pub all-periods : Periods l (0 + lastPlace l)
+  all-periods = let e : 0 + lastPlace l ≡ lastPlace l = omega arith in rw e whole
 
-  way : (j m : ℕ) → (walk l j ≤ m) ↔ AtLeast (back l m) j
-  way = galois l 0 (lastPlace l) all
+  -- the whole ways forward and backward
+  pub way : (j m : ℕ) → (walk l j ≤ m) ↔ AtLeast (back l m) j
+  way = galois l 0 (lastPlace l) all-periods
+
+  pub walk-mono : (i j : ℕ) → i ≤ j → walk l i ≤ walk l j
+  walk-mono = forward-mono l 0 (lastPlace l) all-periods
 
   -- job 0 of the first place goes forward to Wn: no search is needed
   pub warm-walk : warmLast l ≡ walk l 0

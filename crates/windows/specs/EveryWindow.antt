@@ -11,7 +11,7 @@ use Rattle.task.specs.declared.Task.{Task}
 use Rattle.task.specs.Jobs.{writeOf}
 use Rattle.chain.specs.Chains.{at, lastPlace, walk}
 use Rattle.chain.specs.Hyperperiod.{hyperOf}
-use Rattle.chain.specs.Multiples.{hyper-times, from-pos}
+use Rattle.chain.specs.Multiples.{hyper-pos, hyper-times}
 use Rattle.chain.specs.Checks.{Sound}
 use Rattle.timing.specs.WarmUp.{warmAt}
 use Rattle.timing.specs.Period.{walk-period}
@@ -29,7 +29,7 @@ module _ (l : List Task) (ok : Sound l) where
         let z : starts l ≡ 0 = omega arith in
         let e = hyper-times l 0 (ok .some) in
         let g = rw z at e in
-        omega (arith, from-pos l 1 (omega arith) (λ p u. ok .each p u .period-pos))
+        omega (arith, hyper-pos l ok)
   ]
 
   -- A hyperperiod later a job's forward end is a hyperperiod later,
