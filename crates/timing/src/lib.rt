@@ -1,6 +1,6 @@
 // Warm-up, delay and age of a chain.
 // Its calls `warm_up`, `delay` and `age` take any values, and so do those on a flat list T, D, F, T, D, F, .. of tasks, one for each place, which is lent and not copied.
-// `warm_jobs` is for the crates above, on lists that `chain::check_on` accepted.
+// `warm_jobs`, `warm_tick` and `tick_refusal` are for the crates above; the first two on lists that `chain::check_on` accepted.
 use chain::Chain;
 use chain::Verdict;
 use refusal::Refusal;
@@ -60,7 +60,7 @@ pub fn warm_jobs(tasks: &[u64]) -> [Job; 12]
 }
 
 // The warm-up tick x0: the read of W1.
-fn warm_tick(tasks: &[u64]) -> Tick
+pub fn warm_tick(tasks: &[u64]) -> Tick
     requires { ⌜ Sound (tasksIn (now tasks)) ⌝ }
     ensures { λ r. ⌜ r .0 ≡ warmTick (tasksIn (now (tasks .entry))) ⌝ }
 {
@@ -113,7 +113,7 @@ pub fn warm_up(c: Chain) -> WarmUp
 }
 
 // The check of a tick that is asked for, where answers are known from tick `from` on: 12, 13, or 0 for no refusal.
-fn tick_refusal(t: Tick, from: Tick) -> u64
+pub fn tick_refusal(t: Tick, from: Tick) -> u64
     ensures { λ r. ⌜ r ≡ tickRefusal (t .0) (from .0) ⌝ }
 {
     if t.0 < from.0 {

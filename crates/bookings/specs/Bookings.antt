@@ -1,0 +1,77 @@
+-- Order 1 of document 02, "A new answer": the booking of a press by each of two chains, their difference, the greatest such difference, and what the call answers.
+use Prim.Native.Nat.{ℕ, _-_, max, min}
+use mathlib.Core.Bool.{cond}
+use mathlib.Core.List.{List}
+use lib.Dec.{leb, ltb}
+use Rattle.refusal.specs.Refusals.{refusal}
+use Rattle.task.specs.declared.Task.{Task}
+use Rattle.task.specs.Jobs.{writeOf}
+use Rattle.task.specs.Links.{earliestAfter}
+use Rattle.euclid.specs.Divisor.{lcmOf}
+use Rattle.chain.specs.declared.Chain.{Chain}
+use Rattle.chain.specs.declared.Verdict.{Verdict}
+use Rattle.chain.specs.declared.Verdict.the-variants as verdict
+use Rattle.chain.specs.Chains.{tasksOf, at, lastPlace, walk}
+use Rattle.chain.specs.Hyperperiod.{hyperOf}
+use Rattle.chain.specs.Checks.{verdictOf, verdictIn}
+use Rattle.timing.specs.WarmUp.{warmTick}
+use Rattle.timing.specs.Answers.{upperTick}
+use Rattle.ranges.specs.Largest.{largest}
+use Rattle.bookings.specs.declared.Bookings.{Bookings}
+use Rattle.bookings.specs.declared.Bookings.the-variants.{Both, Refused}
+
+-- The booking of a press at tick t: "last write of the forward walk". The delay at t is this less t (`delay-booking` in Stretches).
+unfoldable pub bookingAt : List Task → ℕ → ℕ
+bookingAt l t = writeOf (at l (lastPlace l)) (walk l (earliestAfter (at l 0) t))
+
+-- How far two ticks lie apart: the later less the earlier.
+abbrev pub apartOf : ℕ → ℕ → ℕ
+apartOf x y = max x y - min x y
+
+-- The difference of the two bookings of a press at t.
+unfoldable pub apartAt : List Task → List Task → ℕ → ℕ
+apartAt l m t = apartOf (bookingAt l t) (bookingAt m t)
+
+-- The later of the two warm-up ticks.
+abbrev pub pairWarm : List Task → List Task → ℕ
+pairWarm l m = max (warmTick l) (warmTick m)
+
+-- The common hyperperiod of two chains.
+abbrev pub pairHyper : List Task → List Task → ℕ
+pairHyper l m = lcmOf (hyperOf l) (hyperOf m)
+
+-- "The greatest such difference over one common hyperperiod of ticks from the later warm-up".
+-- That a press has it, and that none has more over all time, is `apart-reached` and `apart-of-all` in EveryPress.
+unfoldable pub greatestApart : List Task → List Task → ℕ
+greatestApart l m = largest (apartAt l m) (pairWarm l m) (pairHyper l m)
+
+-- 7 where the common hyperperiod is above its limit, or else accepted with it.
+unfoldable pub commonVerdict : ℕ → Verdict
+commonVerdict h = cond (leb h 60000000) (verdict.Accepted h) (verdict.Refused (refusal 7 0))
+
+-- "Its checks run": the first chain's own, the second's own, 7 for the common hyperperiod h;
+abbrev pub afterBoth : Verdict → Verdict → ℕ → Verdict
+afterBoth (verdict.Refused r) w h = verdict.Refused r
+afterBoth (verdict.Accepted a) (verdict.Refused r) h = verdict.Refused r
+afterBoth (verdict.Accepted a) (verdict.Accepted b) h = commonVerdict h
+
+unfoldable pub pairVerdict : List Task → List Task → Verdict
+pairVerdict l m = afterBoth (verdictIn l) (verdictIn m) (pairHyper l m)
+
+-- The answer where nothing refuses: the later and the earlier booking, their difference, and the greatest.
+abbrev pub bothAt : List Task → List Task → ℕ → Bookings
+bothAt l m t = Both (record { 0 = max (bookingAt l t) (bookingAt m t) }) (record { 0 = min (bookingAt l t) (bookingAt m t) }) (apartAt l m t) (greatestApart l m)
+
+-- then 12, a tick before either warm-up; 13, a tick above the upper tick.
+unfoldable pub bookingsAfter : List Task → List Task → ℕ → Verdict → Bookings
+bookingsAfter l m t (verdict.Refused r) = Refused r
+bookingsAfter l m t (verdict.Accepted h) =
+    cond (ltb t (pairWarm l m)) (Refused (refusal 12 0)) (cond (ltb upperTick t) (Refused (refusal 13 0)) (bothAt l m t))
+
+-- What the call answers of two lists of tasks,
+abbrev pub bookingsIn : List Task → List Task → ℕ → Bookings
+bookingsIn l m t = bookingsAfter l m t (pairVerdict l m)
+
+-- and of two chains.
+abbrev pub bookingsOf : Chain → Chain → ℕ → Bookings
+bookingsOf c d t = bookingsAfter (tasksOf c) (tasksOf d) t (afterBoth (verdictOf c) (verdictOf d) (pairHyper (tasksOf c) (tasksOf d)))

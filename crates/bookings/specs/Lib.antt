@@ -1,0 +1,5 @@
+pub mod Bookings
+pub mod Standing
+pub mod Stretches
+pub mod EveryPress
+pub mod Survey
