@@ -22,8 +22,8 @@ use Rattle.maker.specs.Making.{madeOf, writtenAfter, writtenOf, Makes}
 use Rattle.maker.proofs.Lists.{sets-overlay}
 use Rattle.agreement.specs.MadeTable.{Completed, done, starts-length, latencies-length, made-anchors, made-well-formed}
 use Rattle.text.specs.Text.{Puts}
-use Rattle.table_text.specs.TableText.{refusedText, tableText, longestText}
-use Rattle.report.specs.Report.{longestPlace, madeText, chainText, fileText, reportOf, Reports}
+use Rattle.table_text.specs.TableText.{refusedText, tableText}
+use Rattle.report.specs.Report.{longestPlace, madeText, chainText, fileText, reportOf, longestText, Reports}
 
 module _ (c : Chain) (twelve : length (c .tasks) ≡ 12) (p : ℕ) (s v s′ v′ : List ℕ) (m : Made) (long : length s ≡ 1024) (wide : length v ≡ 1024)
     (place : p ≡ longestPlace (tasksOf c)) (makes : Makes c p s v s′ v′ m) where
@@ -38,13 +38,13 @@ module _ (c : Chain) (twelve : length (c .tasks) ≡ 12) (p : ℕ) (s v s′ v�
   unfolding chainText
   says k l e f = ap (λ (x : Made). madeText x l) (sym e ∙ answer) ∙ ap (madeText (madeOf c (longestPlace (tasksOf c)) 1024 1024)) f
 
-  pub chain-refused : (r : Refusal) (k o : List ℕ) (to : ℕ) → m ≡ Refused r → Puts (refusedText r) 0 k o to → Puts (chainText 1024 c) 0 k o to
+  pub chain-refused : (r : Refusal) (k o : List ℕ) (at to : ℕ) → m ≡ Refused r → Puts (refusedText r) at k o to → Puts (chainText 1024 c) at k o to
   unfolding madeText
-  chain-refused r k o to e q = subst (λ (x : List ℕ). Puts x 0 k o to) (says (Refused r) (writtenOf c (longestPlace (tasksOf c)) 1024 1024) e refl) q
+  chain-refused r k o at to e q = subst (λ (x : List ℕ). Puts x at k o to) (says (Refused r) (writtenOf c (longestPlace (tasksOf c)) 1024 1024) e refl) q
 
-  pub chain-short : (f : Figures) (k o : List ℕ) (to : ℕ) → m ≡ Short f → Puts (refusedText (refusal 11 0)) 0 k o to → Puts (chainText 1024 c) 0 k o to
+  pub chain-short : (f : Figures) (k o : List ℕ) (at to : ℕ) → m ≡ Short f → Puts (refusedText (refusal 11 0)) at k o to → Puts (chainText 1024 c) at k o to
   unfolding madeText
-  chain-short f k o to e q = subst (λ (x : List ℕ). Puts x 0 k o to) (says (Short f) (writtenOf c (longestPlace (tasksOf c)) 1024 1024) e refl) q
+  chain-short f k o at to e q = subst (λ (x : List ℕ). Puts x at k o to) (says (Short f) (writtenOf c (longestPlace (tasksOf c)) 1024 1024) e refl) q
 
   module _ (f : Figures) (whole : m ≡ Whole f) where
     made : Makes c p s v s′ v′ (Whole f)
@@ -65,9 +65,9 @@ module _ (c : Chain) (twelve : length (c .tasks) ≡ 12) (p : ℕ) (s v s′ v�
     unfolding writtenAfter
     written = made-anchors c twelve p s v s′ v′ f made ∙ sym (ap (writtenAfter c p) (complete .says) ∙ complete .cut) ∙ here (writtenOf c)
 
-    pub chain-whole : (k o : List ℕ) (to : ℕ) → Puts (tableText f (anchors s′ v′ (f .anchors))) 0 k o to → Puts (chainText 1024 c) 0 k o to
+    pub chain-whole : (k o : List ℕ) (at to : ℕ) → Puts (tableText f (anchors s′ v′ (f .anchors))) at k o to → Puts (chainText 1024 c) at k o to
     unfolding madeText
-    chain-whole k o to q = subst (λ (x : List ℕ). Puts x 0 k o to) (says (Whole f) (anchors s′ v′ (f .anchors)) whole written) q
+    chain-whole k o at to q = subst (λ (x : List ℕ). Puts x at k o to) (says (Whole f) (anchors s′ v′ (f .anchors)) whole written) q
 
 -- ---- the file
 

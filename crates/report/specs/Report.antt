@@ -16,7 +16,7 @@ use Rattle.table.specs.Anchors.{Anchor}
 use Rattle.maker.specs.declared.Made.{Made}
 use Rattle.maker.specs.declared.Made.the-variants.{Whole, Short, Refused}
 use Rattle.maker.specs.Making.{madeOf, writtenOf, overlay}
-use Rattle.table_text.specs.TableText.{refusedText, tableText, longestText}
+use Rattle.table_text.specs.TableText.{refusedText, tableText}
 
 -- The longest period of a chain,
 unfoldable pub longestPeriod : List Task → ℕ
@@ -44,6 +44,10 @@ fileText r = cond (eqb (r .refusal .number) 0) (chainText 1024 (chainOf (r .sche
 -- The whole text for the bytes of a file.
 abbrev pub reportOf : List ℕ → List ℕ
 reportOf bytes = fileText (readFile bytes)
+
+-- No report is longer.
+abbrev pub longestText : ℕ
+longestText = 23000
 
 -- What `report` answers and leaves: the answer is the text's length; the lent bytes hold the text, as much of it as fits, and past it what was there.
 pub record Reports (bytes old new : List ℕ) (answer : ℕ) : Type 0 where

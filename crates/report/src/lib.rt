@@ -4,11 +4,11 @@ use chain::Chain;
 use maker::Made;
 use refusal::Refusal;
 ghost use mathlib.Core.Path.{_≡_};
-ghost use Prim.Native.Nat.{_≤_};
+ghost use Prim.Native.Nat.{_+_, _≤_};
 ghost use lib.ListN.{length};
 ghost use Rattle.chain.specs.Chains.{tasksOf};
 ghost use Rattle.text.specs.Text.{Puts};
-ghost use Rattle.table_text.specs.TableText.{longestText};
+ghost use Rattle.table_text.specs.TableText.{longestTable};
 ghost use Rattle.report.specs.Report.{longestPlace, chainText, Reports};
 
 // The place of the longest period, counted from 1; the lowest among equals.
@@ -31,21 +31,28 @@ fn longest_place(c: Chain) -> usize
 }
 
 // The text of a chain, made in two lists of 1,024 slots.
-fn put_chain(out: &mut [u8], c: Chain, starts: &mut [u64], latencies: &mut [u64]) -> usize
-    requires { ⌜ (length (now starts) ≡ 1024) × (length (now latencies) ≡ 1024) ⌝ }
-    ensures { λ n. ⌜ (Puts (chainText 1024 c) 0 (now (out .entry)) (now (out .exit)) n) × (n ≤ longestText) ⌝ }
+fn put_chain(
+    out: &mut [u8],
+    at: usize,
+    c: Chain,
+    starts: &mut [u64],
+    latencies: &mut [u64],
+) -> usize
+    requires { ⌜ (length (now starts) ≡ 1024) × (length (now latencies) ≡ 1024) × (at ≤ 92000) ⌝ }
+    ensures { λ n. ⌜ (Puts (chainText 1024 c) at (now (out .entry)) (now (out .exit)) n) × (n ≤ at + longestTable) ⌝ }
 {
     let m = maker::make_table(c, longest_place(c), starts, latencies);
     match m {
-        Made::Refused(r) => table_text::put_refusal(out, r),
+        Made::Refused(r) => table_text::put_refusal(out, at, r),
         Made::Short(_) => table_text::put_refusal(
             out,
+            at,
             Refusal {
                 number: 11,
                 place: 0,
             },
         ),
-        Made::Whole(f) => table_text::put_table(out, f, starts, latencies),
+        Made::Whole(f) => table_text::put_table(out, at, f, starts, latencies),
     }
 }
 
@@ -57,11 +64,11 @@ pub fn report(bytes: &[u8], out: &mut [u8]) -> usize
     let read = file_reader::read_file(bytes);
     let refusal = read.refusal;
     if refusal.number != 0 {
-        return table_text::put_refusal(out, refusal);
+        return table_text::put_refusal(out, 0, refusal);
     }
     let s = read.schedule;
     let c = schedule::chain_of(s);
     let mut starts = [0u64; 1024];
     let mut latencies = [0u64; 1024];
-    put_chain(out, c, &mut starts, &mut latencies)
+    put_chain(out, 0, c, &mut starts, &mut latencies)
 }

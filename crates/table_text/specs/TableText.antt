@@ -30,5 +30,5 @@ unfoldable pub tableText : Figures → List Anchor → List ℕ
 tableText f l = headText f ++ (anchorLines l ++ (figuresText (f .hyperperiod) l ++ line (ascii "walked") (f .walked ∷ [])))
 
 -- No text of a table made in 1,024 slots is longer. Each of 1,024 lines of an anchor has at most 22 bytes.
-abbrev pub longestText : ℕ
-longestText = 23000
+abbrev pub longestTable : ℕ
+longestTable = 22900

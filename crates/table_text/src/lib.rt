@@ -1,5 +1,5 @@
 // The text of a completed table, and the line of a refusal, in lent bytes. Each function writes a part of the text, from an offset on, and answers the offset after it.
-// They are for the crates above: `put_table` takes a table as making completes it.
+// They are for the crates above: an offset is at most 92,000, by which four tables end, and `put_table` takes a table as making completes it.
 use figures::Greatest;
 use figures::Low;
 use figures::Mean;
@@ -14,31 +14,33 @@ ghost use Rattle.table.specs.WellFormed.{wellFormed};
 ghost use Rattle.table.specs.Figures.{greatest, low};
 ghost use Rattle.figures.specs.Figures.{delaySum};
 ghost use Rattle.text.specs.Text.{Puts};
-ghost use Rattle.table_text.specs.TableText.{refusedText, anchorLines, headText, figuresText, tableText, longestText};
+ghost use Rattle.table_text.specs.TableText.{refusedText, anchorLines, headText, figuresText, tableText, longestTable};
 ghost use Rattle.table_text.specs.Widths.{FewDigits};
 
 // ---- lines
 
-// The one line of a refusal, from the front.
-pub fn put_refusal(out: &mut [u8], r: Refusal) -> usize
-    ensures { λ n. ⌜ (Puts (refusedText r) 0 (now (out .entry)) (now (out .exit)) n) × (n ≤ 50) ⌝ }
+// The one line of a refusal.
+pub fn put_refusal(out: &mut [u8], at: usize, r: Refusal) -> usize
+    requires { ⌜ at ≤ 92000 ⌝ }
+    ensures { λ n. ⌜ (Puts (refusedText r) at (now (out .entry)) (now (out .exit)) n) × (n ≤ at + 50) ⌝ }
 {
-    text::put_pair(out, 0, b"refused", r.number, r.place as u64)
+    text::put_pair(out, at, b"refused", r.number, r.place as u64)
 }
 
-// The lines before the anchors, from the front.
-fn put_head(out: &mut [u8], f: Figures) -> usize
-    ensures { λ n. ⌜ (Puts (headText f) 0 (now (out .entry)) (now (out .exit)) n) × (n ≤ 82) ⌝ }
+// The lines before the anchors.
+fn put_head(out: &mut [u8], at: usize, f: Figures) -> usize
+    requires { ⌜ at ≤ 92000 ⌝ }
+    ensures { λ n. ⌜ (Puts (headText f) at (now (out .entry)) (now (out .exit)) n) × (n ≤ at + 82) ⌝ }
 {
     let tick = f.tick;
-    let a = text::put_line(out, 0, b"warm", tick.0);
+    let a = text::put_line(out, at, b"warm", tick.0);
     let b = text::put_line(out, a, b"hyper", f.hyperperiod);
     text::put_line(out, b, b"anchors", f.anchors as u64)
 }
 
 // The lines of the anchors, each of at most 22 bytes.
 fn put_anchors(out: &mut [u8], at: usize, starts: &[u64], latencies: &[u64], g: usize) -> usize
-    requires { ⌜ (g ≤ length (now starts)) × (g ≤ length (now latencies)) × (at + 22 * g ≤ 50000) × FewDigits (now starts) (now latencies) g ⌝ }
+    requires { ⌜ (g ≤ length (now starts)) × (g ≤ length (now latencies)) × (at + 22 * g ≤ 120000) × FewDigits (now starts) (now latencies) g ⌝ }
     ensures { λ n. ⌜ (Puts (anchorLines (anchors (now (starts .entry)) (now (latencies .entry)) g)) at (now (out .entry)) (now (out .exit)) n) × (n ≤ at + 22 * g) ⌝ }
 {
     let mut end = at;
@@ -94,7 +96,7 @@ fn put_figures(
     g: usize,
     h: u64,
 ) -> usize
-    requires { ⌜ (wellFormed (now starts) (now latencies) g h ≡ true) × (at ≤ 50000) ⌝ }
+    requires { ⌜ (wellFormed (now starts) (now latencies) g h ≡ true) × (at ≤ 120000) ⌝ }
     ensures { λ n. ⌜ (Puts (figuresText h (anchors (now (starts .entry)) (now (latencies .entry)) g)) at (now (out .entry)) (now (out .exit)) n) × (n ≤ at + 97) ⌝ }
 {
     let a = text::put_line(out, at, b"max", greatest_of(starts, latencies, g, h));
@@ -103,11 +105,11 @@ fn put_figures(
 }
 
 // The text of a completed table.
-pub fn put_table(out: &mut [u8], f: Figures, starts: &[u64], latencies: &[u64]) -> usize
-    requires { ⌜ (wellFormed (now starts) (now latencies) (f .anchors) (f .hyperperiod) ≡ true) × (length (now starts) ≡ 1024) × (length (now latencies) ≡ 1024) × (f .anchors ≤ 1024) ⌝ }
-    ensures { λ n. ⌜ (Puts (tableText f (anchors (now (starts .entry)) (now (latencies .entry)) (f .anchors))) 0 (now (out .entry)) (now (out .exit)) n) × (n ≤ longestText) ⌝ }
+pub fn put_table(out: &mut [u8], at: usize, f: Figures, starts: &[u64], latencies: &[u64]) -> usize
+    requires { ⌜ (wellFormed (now starts) (now latencies) (f .anchors) (f .hyperperiod) ≡ true) × (length (now starts) ≡ 1024) × (length (now latencies) ≡ 1024) × (f .anchors ≤ 1024) × (at ≤ 92000) ⌝ }
+    ensures { λ n. ⌜ (Puts (tableText f (anchors (now (starts .entry)) (now (latencies .entry)) (f .anchors))) at (now (out .entry)) (now (out .exit)) n) × (n ≤ at + longestTable) ⌝ }
 {
-    let a = put_head(out, f);
+    let a = put_head(out, at, f);
     let b = put_anchors(out, a, starts, latencies, f.anchors);
     let c = put_figures(out, b, starts, latencies, f.anchors, f.hyperperiod);
     text::put_line(out, c, b"walked", f.walked)

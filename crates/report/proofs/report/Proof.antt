@@ -34,7 +34,7 @@ same-length-2 : tie.Need-same-length-2
 same-length-2 c = search needs
 
 returns-2 : tie.Need-returns-2
-returns-2 c = reported _ _ _ _ _ (ap (chainText 1024) (c .before .before .before .before .before .before .before .before .chain-of .ensures) ∙ file-read (c .before .before .before .before .before .before .before .before .before .before .before .before .before .read-file .result) (c .before .before .before .before .before .before .before .before .before .before .if1 .left) ∙ ap fileText (c .before .before .before .before .before .before .before .before .before .before .before .before .before .read-file .ensures)) (c .before .before .before .before .put-chain .ensures .0) (c .before .before .before .before .put-chain .ensures .1)
+returns-2 c = reported _ _ _ _ _ (ap (chainText 1024) (c .before .before .before .before .before .before .before .before .chain-of .ensures) ∙ file-read (c .before .before .before .before .before .before .before .before .before .before .before .before .before .read-file .result) (c .before .before .before .before .before .before .before .before .before .before .if1 .left) ∙ ap fileText (c .before .before .before .before .before .before .before .before .before .before .before .before .before .read-file .ensures)) (c .before .before .before .before .put-chain .ensures .0) (omega arith)
 
 pub report-spec : {M : Type 1} → statement M
 report-spec =
