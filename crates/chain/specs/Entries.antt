@@ -1,15 +1,31 @@
 -- A list from a rule, as the entries of an array.
-use Prim.Native.Nat.{ℕ, zero, suc, _+_, _<_}
+use Prim.Native.Nat.{ℕ, zero, suc, _+_, _≤_, _<_}
 use native.Mathlib.Omega.{arith}
 use mathlib.Core.Path.{_≡_, refl, sym, ap, _∙_}
-use mathlib.Core.List.{List, [], _∷_}
-use lib.ListN.{length, getD}
+use mathlib.Core.List.{List, [], _∷_, map}
+use lib.ListN.{length, getD, take}
 use lib.Seq.{ext-getD}
 
 -- f at p, p + 1, and so on, n in all.
 unfoldable pub entries : {A : Type 0} → (ℕ → A) → ℕ → ℕ → List A
 entries f p zero = []
 entries f p (suc n) = f p ∷ entries f (suc p) n
+
+-- two rules that agree at the first k numbers have the same first k entries
+pub entries-front : {A : Type 0} (f g : ℕ → A) (k p n : ℕ) → ((i : ℕ) → p ≤ i → i < p + k → f i ≡ g i) → take k (entries f p n) ≡ take k (entries g p n)
+unfolding entries
+entries-front f g zero p n h = refl
+entries-front f g (suc k) p zero h = refl
+entries-front f g (suc k) p (suc n) h =
+    ap (λ (x : _). x ∷ take k (entries f (suc p) n)) (h p (omega arith) (omega arith)) ∙ ap (λ (l : List _). g p ∷ l) (entries-front f g k (suc p) n (λ i a b. h i (omega arith) (omega arith)))
+
+-- and so what another rule makes of them
+pub map-front : {A B : Type 0} (h : A → B) (f g : ℕ → A) (k p n : ℕ) → ((i : ℕ) → p ≤ i → i < p + k → h (f i) ≡ h (g i)) → map h (take k (entries f p n)) ≡ map h (take k (entries g p n))
+unfolding entries
+map-front h f g zero p n e = refl
+map-front h f g (suc k) p zero e = refl
+map-front h f g (suc k) p (suc n) e =
+    ap (λ (x : _). x ∷ map h (take k (entries f (suc p) n))) (e p (omega arith) (omega arith)) ∙ ap (λ (l : List _). h (g p) ∷ l) (map-front h f g k (suc p) n (λ i a b. e i (omega arith) (omega arith)))
 
 module _ {A : Type 0} (f : ℕ → A) where
   pub entries-length : (p n : ℕ) → length (entries f p n) ≡ n

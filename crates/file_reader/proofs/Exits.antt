@@ -47,19 +47,19 @@ module _ (ns : List ℕ) (p : ℕ) (l : List ℕ) where
       chain-long h = rw (eq-eqb (lengthField l) (4 + 2 * placesField l) long, le-leb 1 (placesField l) some, lt-leb (placesField l) 12 h)
 
       module _ (few : placesField l ≤ 12) where
-        pub chain-twice : (p ≡ 0 → ⊥) → Fault 4 ≡ chainRecord ns p l
+        pub chain-fifth : 4 ≤ p → Fault 4 ≡ chainRecord ns p l
         unfolding chainRecord
-        chain-twice h = rw (eq-eqb (lengthField l) (4 + 2 * placesField l) long, le-leb 1 (placesField l) some, le-leb (placesField l) 12 few, ne-eqb p 0 h)
+        chain-fifth h = rw (eq-eqb (lengthField l) (4 + 2 * placesField l) long, le-leb 1 (placesField l) some, le-leb (placesField l) 12 few, le-ltb p 4 h)
 
-        pub chain-first : p ≡ 0 → length ns < 1 → Fault 4 ≡ chainRecord ns p l
+        pub chain-first : p < 4 → length ns < 1 → Fault 4 ≡ chainRecord ns p l
         unfolding chainRecord
         chain-first h g =
-            rw (eq-eqb (lengthField l) (4 + 2 * placesField l) long, le-leb 1 (placesField l) some, le-leb (placesField l) 12 few, eq-eqb p 0 h, lt-leb 1 (length ns) g)
+            rw (eq-eqb (lengthField l) (4 + 2 * placesField l) long, le-leb 1 (placesField l) some, le-leb (placesField l) 12 few, lt-ltb p 4 h, lt-leb 1 (length ns) g)
 
-        pub chain-judged : p ≡ 0 → 1 ≤ length ns → (b : Bool) → allKnown ns (chainField l (placesField l)) ≡ b → cond b (Chain (placesField l)) (Fault 6) ≡ chainRecord ns p l
+        pub chain-judged : p < 4 → 1 ≤ length ns → (b : Bool) → allKnown ns (chainField l (placesField l)) ≡ b → cond b (Chain (placesField l)) (Fault 6) ≡ chainRecord ns p l
         unfolding chainRecord
         chain-judged h g b e =
-            rw (eq-eqb (lengthField l) (4 + 2 * placesField l) long, le-leb 1 (placesField l) some, le-leb (placesField l) 12 few, eq-eqb p 0 h, le-leb 1 (length ns) g, e)
+            rw (eq-eqb (lengthField l) (4 + 2 * placesField l) long, le-leb 1 (placesField l) some, le-leb (placesField l) 12 few, lt-ltb p 4 h, le-leb 1 (length ns) g, e)
 
   -- ---- any record
 

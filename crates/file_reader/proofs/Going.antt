@@ -9,51 +9,52 @@ use lib.Seq.{drop-drop}
 use borrow.Author.Tests.{lt-ltb, le-ltb}
 use Rattle.refusal.specs.Refusals.{none}
 use Rattle.schedule.specs.declared.NumberedTask.{NumberedTask}
-use Rattle.schedule.specs.Schedules.{numberOf, padded, zeroNumbered}
+use Rattle.schedule.specs.declared.Route.{Route}
+use Rattle.schedule.specs.Schedules.{numberOf, padded, zeroNumbered, emptyRoute, routeOf}
 use Rattle.schedule.specs.Padding.{padded-none, padded-set, take-padded, length-padded}
 use Rattle.file_reader.specs.declared.Record.{Record}
 use Rattle.file_reader.specs.declared.Record.the-variants.{Task, Chain, End, Fault}
 use Rattle.file_reader.specs.declared.FileRead.{FileRead}
 use Rattle.file_reader.specs.Reading.{chainField, recordOf, refusedFile, acceptedFile, afterRecord, readFrom, readFile}
-use Rattle.file_reader.specs.Records.{tells, length-numbers}
+use Rattle.file_reader.specs.Records.{tells}
 
-pub map-snoc : (ts : List NumberedTask) (t : NumberedTask) → map numberOf (ts ++ (t ∷ [])) ≡ map numberOf ts ++ (t .number ∷ [])
-map-snoc [] t = refl
-map-snoc (x ∷ ts) t = ap (λ (r : List ℕ). x .number ∷ r) (map-snoc ts t)
+pub map-snoc : {A B : Type 0} (f : A → B) (l : List A) (x : A) → map f (l ++ (x ∷ [])) ≡ map f l ++ (f x ∷ [])
+map-snoc f [] x = refl
+map-snoc {B = B} f (y ∷ l) x = ap (λ (r : List B). f y ∷ r) (map-snoc f l x)
 
-pub record Going (bytes : List ℕ) (tasks : List NumberedTask) (numbers chain : List ℕ) (count places at : ℕ) : Type 0 where
+pub record Going (bytes : List ℕ) (tasks : List NumberedTask) (numbers : List ℕ) (routes : List Route) (count chains at : ℕ) : Type 0 where
   pub read : List NumberedTask
-  pub placed : List ℕ
+  pub placed : List (List ℕ)
   pub left : ℕ
   pub tasks-are : tasks ≡ padded 32 zeroNumbered read
   pub numbers-are : numbers ≡ padded 32 0 (map numberOf read)
-  pub chain-is : chain ≡ padded 12 0 placed
+  pub routes-are : routes ≡ padded 4 emptyRoute (map routeOf placed)
   pub counted : count ≡ length read
-  pub placed-counted : places ≡ length placed
+  pub placed-counted : chains ≡ length placed
   pub few : count ≤ 32
-  pub few-places : places ≤ 12
+  pub few-chains : chains ≤ 4
   pub inside : at ≤ length bytes
   pub enough : length bytes - at ≤ left
   pub whole : readFile bytes ≡ readFrom left read placed at (drop at bytes)
 
-pub going-start : (bytes : List ℕ) → Going bytes (replicate 32 zeroNumbered) (replicate 32 0) (replicate 12 0) 0 0 0
+pub going-start : (bytes : List ℕ) → Going bytes (replicate 32 zeroNumbered) (replicate 32 0) (replicate 4 emptyRoute) 0 0 0
 going-start bytes = record {
   read = [];
   placed = [];
   left = length bytes;
   tasks-are = sym (padded-none zeroNumbered 32);
   numbers-are = sym (padded-none 0 32);
-  chain-is = sym (padded-none 0 12);
+  routes-are = sym (padded-none emptyRoute 4);
   counted = refl;
   placed-counted = refl;
   few = omega arith;
-  few-places = omega arith;
+  few-chains = omega arith;
   inside = omega arith;
   enough = omega arith;
   whole = refl;
 }
 
-module _ (bytes : List ℕ) (tasks : List NumberedTask) (numbers chain : List ℕ) (count places at : ℕ) (g : Going bytes tasks numbers chain count places at) where
+module _ (bytes : List ℕ) (tasks : List NumberedTask) (numbers : List ℕ) (routes : List Route) (count chains at : ℕ) (g : Going bytes tasks numbers routes count chains at) where
   pub going-long : length numbers ≡ 32
   going-long = ap length (g .numbers-are) ∙ length-padded 0 32 (map numberOf (g .read)) (simp length-map (omega (arith, g .counted, g .few)))
 
@@ -64,7 +65,7 @@ module _ (bytes : List ℕ) (tasks : List NumberedTask) (numbers chain : List �
       ∙ take-padded 0 32 (map numberOf (g .read)) (omega (arith, g .few))
 
   -- a record that was judged to be r
-  module _ (r : Record) (judged : r ≡ recordOf (take count numbers) places (drop at bytes)) where
+  module _ (r : Record) (judged : r ≡ recordOf (take count numbers) chains (drop at bytes)) where
     same : recordOf (map numberOf (g .read)) (length (g .placed)) (drop at bytes) ≡ r
     same =
         ap (λ (l : List ℕ). recordOf l (length (g .placed)) (drop at bytes)) (sym known-are)
@@ -78,16 +79,16 @@ module _ (bytes : List ℕ) (tasks : List NumberedTask) (numbers chain : List �
         ∙ ap (afterRecord (readFrom (g .left - 1)) (g .read) (g .placed) at (drop at bytes)) same
 
   module _ (h : at < length bytes) where
-    pub task-inside : (t : NumberedTask) → Task t ≡ recordOf (take count numbers) places (drop at bytes) → (at + 18 ≤ length bytes) × (count < 32)
+    pub task-inside : (t : NumberedTask) → Task t ≡ recordOf (take count numbers) chains (drop at bytes) → (at + 18 ≤ length bytes) × (count < 32)
     task-inside t e =
         let i = tells _ _ _ _ (sym e) in
         (omega (arith, i .long, length-drop at bytes), omega (arith, i .few, ap length known-are, length-map (g .read) numberOf, g .counted))
 
-    pub chain-inside : (p : ℕ) → Chain p ≡ recordOf (take count numbers) places (drop at bytes) → (4 + 2 * p ≤ length (drop at bytes)) × (p ≤ 12) × (at + (4 + 2 * p) ≤ length bytes)
-    chain-inside p e = let i = tells _ _ _ _ (sym e) in (i .long, i .few, omega (arith, i .long, length-drop at bytes))
+    pub chain-inside : (p : ℕ) → Chain p ≡ recordOf (take count numbers) chains (drop at bytes) → (4 + 2 * p ≤ length (drop at bytes)) × (p ≤ 12) × (at + (4 + 2 * p) ≤ length bytes) × (chains < 4)
+    chain-inside p e = let i = tells _ _ _ _ (sym e) in (i .long, i .few, omega (arith, i .long, length-drop at bytes), i .few-chains)
 
-    pub going-task : (t : NumberedTask) → Task t ≡ recordOf (take count numbers) places (drop at bytes)
-        → Going bytes (set tasks count t) (set numbers count (t .number)) chain (count + 1) places (at + 18)
+    pub going-task : (t : NumberedTask) → Task t ≡ recordOf (take count numbers) chains (drop at bytes)
+        → Going bytes (set tasks count t) (set numbers count (t .number)) routes (count + 1) chains (at + 18)
     unfolding afterRecord
     going-task t e =
         let i = task-inside t e in
@@ -98,52 +99,55 @@ module _ (bytes : List ℕ) (tasks : List NumberedTask) (numbers chain : List �
           left = g .left - 1;
           tasks-are = ap (λ (l : List NumberedTask). set l count t) (g .tasks-are) ∙ padded-set zeroNumbered 32 (g .read) count t (sym (g .counted)) (i .1);
           numbers-are = ap (λ (l : List ℕ). set l count (t .number)) (g .numbers-are) ∙ padded-set 0 32 (map numberOf (g .read)) count (t .number) n (i .1)
-              ∙ ap (padded 32 0) (sym (map-snoc (g .read) t));
-          chain-is = g .chain-is;
+              ∙ ap (padded 32 0) (sym (map-snoc numberOf (g .read) t));
+          routes-are = g .routes-are;
           counted = ap (λ (k : ℕ). k + 1) (g .counted) ∙ sym (length-append (g .read) (t ∷ []));
           placed-counted = g .placed-counted;
           few = omega arith;
-          few-places = g .few-places;
+          few-chains = g .few-chains;
           inside = i .0;
           enough = omega (arith, g .enough);
           whole = turn (Task t) e h ∙ ap (readFrom (g .left - 1) (g .read ++ (t ∷ [])) (g .placed) (at + 18)) (drop-drop 18 at bytes);
         }
 
-    pub going-chain : (p : ℕ) → Chain p ≡ recordOf (take count numbers) places (drop at bytes)
-        → Going bytes tasks numbers (padded 12 0 (chainField (drop at bytes) p)) count p (at + (4 + 2 * p))
+    pub going-chain : (p : ℕ) → Chain p ≡ recordOf (take count numbers) chains (drop at bytes)
+        → Going bytes tasks numbers (set routes chains (routeOf (chainField (drop at bytes) p))) count (chains + 1) (at + (4 + 2 * p))
     unfolding afterRecord
     going-chain p e =
         let i = chain-inside p e in
+        let ch : List ℕ = chainField (drop at bytes) p in
+        let n : length (map routeOf (g .placed)) ≡ chains = length-map (g .placed) routeOf ∙ sym (g .placed-counted) in
         record {
           read = g .read;
-          placed = chainField (drop at bytes) p;
+          placed = g .placed ++ (ch ∷ []);
           left = g .left - 1;
           tasks-are = g .tasks-are;
           numbers-are = g .numbers-are;
-          chain-is = refl;
+          routes-are = ap (λ (l : List Route). set l chains (routeOf ch)) (g .routes-are) ∙ padded-set emptyRoute 4 (map routeOf (g .placed)) chains (routeOf ch) n (i .3)
+              ∙ ap (padded 4 emptyRoute) (sym (map-snoc routeOf (g .placed) ch));
           counted = g .counted;
-          placed-counted = sym (length-numbers (drop at bytes) 4 p);
+          placed-counted = ap (λ (k : ℕ). k + 1) (g .placed-counted) ∙ sym (length-append (g .placed) (ch ∷ []));
           few = g .few;
-          few-places = i .1;
+          few-chains = omega (arith, i .3);
           inside = i .2;
           enough = omega (arith, g .enough);
-          whole = turn (Chain p) e h ∙ ap (readFrom (g .left - 1) (g .read) (chainField (drop at bytes) p) (at + (4 + 2 * p))) (drop-drop (4 + 2 * p) at bytes);
+          whole = turn (Chain p) e h ∙ ap (readFrom (g .left - 1) (g .read) (g .placed ++ (ch ∷ [])) (at + (4 + 2 * p))) (drop-drop (4 + 2 * p) at bytes);
         }
 
-    pub going-fault : (k : ℕ) → Fault k ≡ recordOf (take count numbers) places (drop at bytes) → refusedFile k at ≡ readFile bytes
+    pub going-fault : (k : ℕ) → Fault k ≡ recordOf (take count numbers) chains (drop at bytes) → refusedFile k at ≡ readFile bytes
     unfolding afterRecord
     going-fault k e = sym (turn (Fault k) e h)
 
-    pub going-after : End ≡ recordOf (take count numbers) places (drop at bytes) → 4 < length (drop at bytes) → refusedFile 4 (at + 4) ≡ readFile bytes
+    pub going-after : End ≡ recordOf (take count numbers) chains (drop at bytes) → 4 < length (drop at bytes) → refusedFile 4 (at + 4) ≡ readFile bytes
     unfolding afterRecord
     going-after e k =
         sym (turn End e h ∙ ap (λ (b : _). cond b (refusedFile 4 (at + 4)) (acceptedFile (g .read) (g .placed))) (lt-ltb 4 (length (drop at bytes)) k))
 
-    pub going-end : End ≡ recordOf (take count numbers) places (drop at bytes) → length (drop at bytes) ≤ 4
-        → _≡_ {A = FileRead} (record { refusal = none; schedule = record { tasks = tasks; chain = chain; count = count; places = places } }) (readFile bytes)
+    pub going-end : End ≡ recordOf (take count numbers) chains (drop at bytes) → length (drop at bytes) ≤ 4
+        → _≡_ {A = FileRead} (record { refusal = none; schedule = record { tasks = tasks; routes = routes; count = count; chains = chains } }) (readFile bytes)
     unfolding afterRecord
     going-end e k =
-        rw (g .tasks-are, g .chain-is, g .counted, g .placed-counted)
+        rw (g .tasks-are, g .routes-are, g .counted, g .placed-counted)
         (sym (turn End e h ∙ ap (λ (b : _). cond b (refusedFile 4 (at + 4)) (acceptedFile (g .read) (g .placed))) (le-ltb 4 (length (drop at bytes)) k)))
 
   -- Where no byte is left the end is missing.

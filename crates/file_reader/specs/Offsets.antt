@@ -1,4 +1,4 @@
--- A file is accepted, or refused with 1 to 6 at an offset of at most 608 and with a schedule of zeros (`read-as`). The longest file has 608 bytes.
+-- A file is accepted, or refused with 1 to 6 at an offset of at most 692 and with a schedule of zeros (`read-as`). The longest file has 692 bytes.
 use Prim.Native.Nat.{ℕ, zero, suc, _+_, _*_, _≤_}
 use native.Mathlib.Omega.{arith}
 use native.Mathlib.Decide.{decLt}
@@ -13,52 +13,53 @@ use Rattle.file_reader.specs.declared.Record.{Record}
 use Rattle.file_reader.specs.declared.FileRead.{FileRead}
 use Rattle.file_reader.specs.declared.Record.the-variants.{Task, Chain, End, Fault}
 use Rattle.file_reader.specs.Reading.{chainField, recordOf, refusedFile, acceptedFile, afterRecord, readFrom, readFile}
-use Rattle.file_reader.specs.Records.{Tells, tells, length-numbers}
+use Rattle.file_reader.specs.Records.{Tells, tells}
 
 pub data ReadAs (r : FileRead) : Type 0 where
-  accepts : (ts : List NumberedTask) (ch : List ℕ) → r ≡ acceptedFile ts ch → ReadAs r
-  refuses : (number place : ℕ) → 1 ≤ number → number ≤ 6 → place ≤ 608 → r ≡ refusedFile number place → ReadAs r
+  accepts : (ts : List NumberedTask) (chs : List (List ℕ)) → r ≡ acceptedFile ts chs → ReadAs r
+  refuses : (number place : ℕ) → 1 ≤ number → number ≤ 6 → place ≤ 692 → r ≡ refusedFile number place → ReadAs r
 
--- where reading can stand after so many tasks and places
-record Near (tasks places at : ℕ) : Type 0 where
+-- where reading can stand after so many tasks and chains
+record Near (tasks chains at : ℕ) : Type 0 where
   few : tasks ≤ 32
-  tasks-only : places ≡ 0 → at ≤ 18 * tasks
-  with-chain : at ≤ 18 * tasks + 28
+  few-chains : chains ≤ 4
+  near : at ≤ 18 * tasks + 28 * chains
 
-from-as : (n : ℕ) (ts : List NumberedTask) (ch : List ℕ) (at : ℕ) (l : List ℕ) → Near (length ts) (length ch) at → ReadAs (readFrom n ts ch at l)
+near-end : {tasks chains at : ℕ} → Near tasks chains at → at ≤ 688
+near-end n = omega (arith, n .few, n .few-chains, n .near)
+
+from-as : (n : ℕ) (ts : List NumberedTask) (chs : List (List ℕ)) (at : ℕ) (l : List ℕ) → Near (length ts) (length chs) at → ReadAs (readFrom n ts chs at l)
 unfolding readFrom afterRecord
-from-as zero ts ch at l near = refuses 1 at (omega arith) (omega arith) (omega (arith, near .with-chain, near .few)) refl
-from-as (suc n) ts ch at l near =
-    go (recordOf (map numberOf ts) (length ch) l) (tells (map numberOf ts) (length ch) l (recordOf (map numberOf ts) (length ch) l) refl) (λ ts′ ch′ at′ l′. from-as n ts′ ch′ at′ l′)
+from-as zero ts chs at l near = refuses 1 at (omega arith) (omega arith) (omega (arith, near-end near)) refl
+from-as (suc n) ts chs at l near =
+    go (recordOf (map numberOf ts) (length chs) l) (tells (map numberOf ts) (length chs) l (recordOf (map numberOf ts) (length chs) l) refl) (λ ts′ chs′ at′ l′. from-as n ts′ chs′ at′ l′)
   where
-    go : (r : Record) → Tells (map numberOf ts) (length ch) l r
-        → ((ts′ : List NumberedTask) (ch′ : List ℕ) (at′ : ℕ) (l′ : List ℕ) → Near (length ts′) (length ch′) at′ → ReadAs (readFrom n ts′ ch′ at′ l′))
-        → ReadAs (afterRecord (readFrom n) ts ch at l r)
+    go : (r : Record) → Tells (map numberOf ts) (length chs) l r
+        → ((ts′ : List NumberedTask) (chs′ : List (List ℕ)) (at′ : ℕ) (l′ : List ℕ) → Near (length ts′) (length chs′) at′ → ReadAs (readFrom n ts′ chs′ at′ l′))
+        → ReadAs (afterRecord (readFrom n) ts chs at l r)
     go (Task t) i on =
         let m : length (ts ++ (t ∷ [])) ≡ length ts + 1 = length-append ts (t ∷ []) in
-        let a : at ≤ 18 * length ts = near .tasks-only (i .no-chain) in
-        on (ts ++ (t ∷ [])) ch (at + 18) (drop 18 l) (record { few = omega (arith, i .few, length-map ts numberOf); tasks-only = λ z. omega arith; with-chain = omega arith })
+        on (ts ++ (t ∷ [])) chs (at + 18) (drop 18 l) (record { few = omega (arith, i .few, length-map ts numberOf); few-chains = near .few-chains; near = omega (arith, near .near) })
     go (Chain p) i on =
-        let m : length (chainField l p) ≡ p = length-numbers l 4 p in
-        let a : at ≤ 18 * length ts = near .tasks-only (i .no-chain) in
-        on ts (chainField l p) (at + (4 + 2 * p)) (drop (4 + 2 * p) l) (record { few = near .few; tasks-only = λ z. absurd (omega (arith, i .some)); with-chain = omega (arith, i .few) })
+        let m : length (chs ++ (chainField l p ∷ [])) ≡ length chs + 1 = length-append chs (chainField l p ∷ []) in
+        on ts (chs ++ (chainField l p ∷ [])) (at + (4 + 2 * p)) (drop (4 + 2 * p) l) (record { few = near .few; few-chains = omega (arith, i .few-chains); near = omega (arith, near .near, i .few) })
     go End i on = elim (decLt 4 (length l)) [
-      | yes h ↦ rw (lt-ltb 4 (length l) h) (refuses 4 (at + 4) (omega arith) (omega arith) (omega (arith, near .with-chain, near .few)) refl)
-      | no h ↦ rw (le-ltb 4 (length l) (omega arith)) (accepts ts ch refl)
+      | yes h ↦ rw (lt-ltb 4 (length l) h) (refuses 4 (at + 4) (omega arith) (omega arith) (omega (arith, near-end near)) refl)
+      | no h ↦ rw (le-ltb 4 (length l) (omega arith)) (accepts ts chs refl)
     ]
-    go (Fault k) i on = refuses k at (i .0) (i .1) (omega (arith, near .with-chain, near .few)) refl
+    go (Fault k) i on = refuses k at (i .0) (i .1) (omega (arith, near-end near)) refl
 
 pub read-as : (l : List ℕ) → ReadAs (readFile l)
-read-as l = from-as (length l) [] [] 0 l (record { few = omega arith; tasks-only = λ z. omega arith; with-chain = omega arith })
+read-as l = from-as (length l) [] [] 0 l (record { few = omega arith; few-chains = omega arith; near = omega arith })
 
 -- Either way the refusal's number and place are small.
 pub record SmallRefusal (r : Refusal) : Type 0 where
   pub number : r .number ≤ 6
-  pub place : r .place ≤ 608
+  pub place : r .place ≤ 692
 
 pub read-small : (l : List ℕ) → SmallRefusal (readFile l .refusal)
 read-small l = go (readFile l) (read-as l)
   where
     go : (r : FileRead) → ReadAs r → SmallRefusal (r .refusal)
-    go r (accepts ts ch e) = rw e (record { number = omega arith; place = omega arith })
+    go r (accepts ts chs e) = rw e (record { number = omega arith; place = omega arith })
     go r (refuses number place some few near e) = rw e (record { number = few; place = near })

@@ -1,5 +1,5 @@
--- Document 01, "Schedule file" and "Refusals, call by call": reading a file, record by record, up to the first fault.
--- A record is judged on the bytes from its offset on, the numbers of the tasks before it, and the places of the chain before it (0 for no chain yet).
+-- Document 01, "Schedule file" and "Refusals, call by call", with order 1 of document 02: reading a file, record by record, up to the first fault.
+-- A record is judged on the bytes from its offset on, the numbers of the tasks before it, and the number of chains before it.
 use Prim.Native.Nat.{ℕ, zero, suc, _+_, _-_, _*_, _/_}
 use mathlib.Core.Bool.{Bool, true, false, cond, _&&_}
 use mathlib.Core.List.{List, [], _∷_, _++_, map}
@@ -50,11 +50,11 @@ unfoldable pub allKnown : List ℕ → List ℕ → Bool
 allKnown numbers [] = true
 allKnown numbers (n ∷ l) = cond (known numbers n) (allKnown numbers l) false
 
--- Kind 1, length 18. 2: wrong length. 4: a task after the chain, or a 33rd task. 5: task number or value outside its rule.
+-- Kind 1, length 18. 2: wrong length. 4: a task after a chain, or a 33rd task. 5: task number or value outside its rule.
 unfoldable pub taskRecord : List ℕ → ℕ → List ℕ → Record
-taskRecord numbers places l =
+taskRecord numbers chains l =
     cond (eqb (lengthField l) 18)
-    (cond (eqb places 0 && ltb (length numbers) 32)
+    (cond (eqb chains 0 && ltb (length numbers) 32)
     (cond (taskRule (lastOf numbers) (taskField l)) (Task (taskField l)) (Fault 5))
     (Fault 4))
     (Fault 2)
@@ -63,34 +63,34 @@ taskRecord numbers places l =
 abbrev pub placesField : List ℕ → ℕ
 placesField l = (lengthField l - 4) / 2
 
--- 2: wrong length. 4: chain first or twice. 6: unknown task in the chain.
+-- 2: wrong length. 4: chain first, or a fifth chain. 6: unknown task in the chain.
 unfoldable pub chainRecord : List ℕ → ℕ → List ℕ → Record
-chainRecord numbers places l =
+chainRecord numbers chains l =
     cond (eqb (lengthField l) (4 + 2 * placesField l) && (leb 1 (placesField l) && leb (placesField l) 12))
-    (cond (eqb places 0 && leb 1 (length numbers))
+    (cond (ltb chains 4 && leb 1 (length numbers))
     (cond (allKnown numbers (chainField l (placesField l))) (Chain (placesField l)) (Fault 6))
     (Fault 4))
     (Fault 2)
 
--- Kind 3, length 4. 2: wrong length. 4: end before the chain.
+-- Kind 3, length 4. 2: wrong length. 4: end before a chain.
 unfoldable pub endRecord : ℕ → ℕ → Record
-endRecord long places = cond (eqb long 4) (cond (eqb places 0) (Fault 4) End) (Fault 2)
+endRecord long chains = cond (eqb long 4) (cond (eqb chains 0) (Fault 4) End) (Fault 2)
 
 -- 3: unknown kind.
 unfoldable pub kindRecord : ℕ → List ℕ → ℕ → List ℕ → Record
-kindRecord kind numbers places l =
-    cond (eqb kind 1) (taskRecord numbers places l)
-    (cond (eqb kind 2) (chainRecord numbers places l)
-    (cond (eqb kind 3) (endRecord (lengthField l) places)
+kindRecord kind numbers chains l =
+    cond (eqb kind 1) (taskRecord numbers chains l)
+    (cond (eqb kind 2) (chainRecord numbers chains l)
+    (cond (eqb kind 3) (endRecord (lengthField l) chains)
     (Fault 3)))
 
 -- 1: fewer than 4 bytes remain. 2: length below 4. 1: length runs past the file. Then by kind.
 unfoldable pub recordOf : List ℕ → ℕ → List ℕ → Record
-recordOf numbers places l =
+recordOf numbers chains l =
     cond (ltb (length l) 4) (Fault 1)
     (cond (ltb (lengthField l) 4) (Fault 2)
     (cond (ltb (length l) (lengthField l)) (Fault 1)
-    (kindRecord (kindField l) numbers places l)))
+    (kindRecord (kindField l) numbers chains l)))
 
 -- ---- the file
 
@@ -98,21 +98,21 @@ recordOf numbers places l =
 abbrev pub refusedFile : ℕ → ℕ → FileRead
 refusedFile number place = record { refusal = refusal number place; schedule = emptySchedule }
 
-abbrev pub acceptedFile : List NumberedTask → List ℕ → FileRead
-acceptedFile tasks chain = record { refusal = none; schedule = scheduleOf tasks chain }
+abbrev pub acceptedFile : List NumberedTask → List (List ℕ) → FileRead
+acceptedFile tasks chains = record { refusal = none; schedule = scheduleOf tasks chains }
 
 -- Where reading goes after a record; `go` reads on from the next one. A byte after end is 4 at that byte.
-unfoldable pub afterRecord : (List NumberedTask → List ℕ → ℕ → List ℕ → FileRead) → List NumberedTask → List ℕ → ℕ → List ℕ → Record → FileRead
-afterRecord go tasks chain at l (Task t) = go (tasks ++ (t ∷ [])) chain (at + 18) (drop 18 l)
-afterRecord go tasks chain at l (Chain p) = go tasks (chainField l p) (at + (4 + 2 * p)) (drop (4 + 2 * p) l)
-afterRecord go tasks chain at l End = cond (ltb 4 (length l)) (refusedFile 4 (at + 4)) (acceptedFile tasks chain)
-afterRecord go tasks chain at l (Fault k) = refusedFile k at
+unfoldable pub afterRecord : (List NumberedTask → List (List ℕ) → ℕ → List ℕ → FileRead) → List NumberedTask → List (List ℕ) → ℕ → List ℕ → Record → FileRead
+afterRecord go tasks chains at l (Task t) = go (tasks ++ (t ∷ [])) chains (at + 18) (drop 18 l)
+afterRecord go tasks chains at l (Chain p) = go tasks (chains ++ (chainField l p ∷ [])) (at + (4 + 2 * p)) (drop (4 + 2 * p) l)
+afterRecord go tasks chains at l End = cond (ltb 4 (length l)) (refusedFile 4 (at + 4)) (acceptedFile tasks chains)
+afterRecord go tasks chains at l (Fault k) = refusedFile k at
 
--- Reading from a record on: the tasks and the chain before it, its offset, and the bytes from there on.
+-- Reading from a record on: the tasks and the chains before it, its offset, and the bytes from there on.
 -- The first number is at least the number of these bytes, so enough for their records; at 0 no byte is left, and that is 1.
-unfoldable pub readFrom : ℕ → List NumberedTask → List ℕ → ℕ → List ℕ → FileRead
-readFrom zero tasks chain at l = refusedFile 1 at
-readFrom (suc n) tasks chain at l = afterRecord (readFrom n) tasks chain at l (recordOf (map numberOf tasks) (length chain) l)
+unfoldable pub readFrom : ℕ → List NumberedTask → List (List ℕ) → ℕ → List ℕ → FileRead
+readFrom zero tasks chains at l = refusedFile 1 at
+readFrom (suc n) tasks chains at l = afterRecord (readFrom n) tasks chains at l (recordOf (map numberOf tasks) (length chains) l)
 
 -- Reading a file: from its first byte on.
 abbrev pub readFile : List ℕ → FileRead

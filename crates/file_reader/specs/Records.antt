@@ -19,36 +19,36 @@ unfolding numbersFrom
 length-numbers l at zero = refl
 length-numbers l at (suc n) = ap suc (length-numbers l (2 + at) n)
 
-pub record IsTask (numbers : List ℕ) (places : ℕ) (l : List ℕ) (t : NumberedTask) : Type 0 where
+pub record IsTask (numbers : List ℕ) (chains : ℕ) (l : List ℕ) (t : NumberedTask) : Type 0 where
   pub long : 18 ≤ length l
   pub length-is : lengthField l ≡ 18
   pub kind-is : kindField l ≡ 1
-  pub no-chain : places ≡ 0
+  pub no-chain : chains ≡ 0
   pub few : length numbers < 32
   pub rule : taskRule (lastOf numbers) t ≡ true
   pub is : t ≡ taskField l
 
-pub record IsChain (numbers : List ℕ) (places : ℕ) (l : List ℕ) (p : ℕ) : Type 0 where
+pub record IsChain (numbers : List ℕ) (chains : ℕ) (l : List ℕ) (p : ℕ) : Type 0 where
   pub long : 4 + 2 * p ≤ length l
   pub length-is : lengthField l ≡ 4 + 2 * p
   pub kind-is : kindField l ≡ 2
   pub some : 1 ≤ p
   pub few : p ≤ 12
-  pub no-chain : places ≡ 0
+  pub few-chains : chains < 4
   pub tasks : 1 ≤ length numbers
   pub all : allKnown numbers (chainField l p) ≡ true
 
-pub record IsEnd (places : ℕ) (l : List ℕ) : Type 0 where
+pub record IsEnd (chains : ℕ) (l : List ℕ) : Type 0 where
   pub long : 4 ≤ length l
   pub length-is : lengthField l ≡ 4
   pub kind-is : kindField l ≡ 3
-  pub chain : 1 ≤ places
+  pub chain : 1 ≤ chains
 
 abbrev pub Tells : List ℕ → ℕ → List ℕ → Record → Type 0
-Tells numbers places l (Task t) = IsTask numbers places l t
-Tells numbers places l (Chain p) = IsChain numbers places l p
-Tells numbers places l End = IsEnd places l
-Tells numbers places l (Fault k) = (1 ≤ k) × (k ≤ 6)
+Tells numbers chains l (Task t) = IsTask numbers chains l t
+Tells numbers chains l (Chain p) = IsChain numbers chains l p
+Tells numbers chains l End = IsEnd chains l
+Tells numbers chains l (Fault k) = (1 ≤ k) × (k ≤ 6)
 
 -- a choice has what both sides have
 choice : (P : Record → Type 0) (b : Bool) (x y : Record) → (b ≡ true → P x) → (b ≡ false → P y) → P (cond b x y)
@@ -80,15 +80,15 @@ module _ (ns : List ℕ) (p : ℕ) (l : List ℕ) (inside : lengthField l ≤ le
       choice (Tells ns p l) (eqb (lengthField l) (4 + 2 * q) && (leb 1 q && leb q 12)) _ _ (λ a.
       let u = both (eqb (lengthField l) (4 + 2 * q)) (leb 1 q && leb q 12) a in
       let e : lengthField l ≡ 4 + 2 * q = eqb-true (lengthField l) (4 + 2 * q) (u .0) in
-      choice (Tells ns p l) (eqb p 0 && leb 1 (length ns)) _ _ (λ b.
+      choice (Tells ns p l) (ltb p 4 && leb 1 (length ns)) _ _ (λ b.
       choice (Tells ns p l) (allKnown ns (chainField l q)) _ _ (λ r. record {
         long = omega arith;
         length-is = e;
         kind-is = kind;
         some = leb-true 1 q (both (leb 1 q) (leb q 12) (u .1) .0);
         few = leb-true q 12 (both (leb 1 q) (leb q 12) (u .1) .1);
-        no-chain = eqb-true p 0 (both (eqb p 0) (leb 1 (length ns)) b .0);
-        tasks = leb-true 1 (length ns) (both (eqb p 0) (leb 1 (length ns)) b .1);
+        few-chains = ltb-true p 4 (both (ltb p 4) (leb 1 (length ns)) b .0);
+        tasks = leb-true 1 (length ns) (both (ltb p 4) (leb 1 (length ns)) b .1);
         all = r;
       }) (λ r. (omega arith, omega arith)))
       (λ b. (omega arith, omega arith)))

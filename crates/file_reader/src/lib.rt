@@ -2,12 +2,14 @@
 // `read_file` is the entry point; the other functions judge or read one record.
 use refusal::Refusal;
 use schedule::NumberedTask;
+use schedule::Route;
 use schedule::Schedule;
 use task::Task;
 ghost use mathlib.Core.Path.{_≡_};
 ghost use mathlib.Core.List.{List};
 ghost use Prim.Native.Nat.{_+_, _*_, _≤_, _<_};
 ghost use lib.ListN.{length, take};
+ghost use Rattle.schedule.specs.Schedules.{routeOf};
 ghost use Rattle.file_reader.specs.Reading.{lengthField, taskField, lastOf, allKnown, chainField, chainEntries, taskRecord, chainRecord, endRecord, recordOf, refusedFile, readFile};
 
 // What one record is: a task, a chain of so many places, the end, or the number of its fault.
@@ -73,17 +75,28 @@ fn chain_entries(rest: &[u8], places: usize) -> [u64; 12]
     chain
 }
 
+// The chain of a chain record.
+fn route_of(rest: &[u8], places: usize) -> Route
+    requires { ⌜ (places ≤ 12) × (4 + 2 * places ≤ length (now rest)) ⌝ }
+    ensures { λ r. ⌜ r ≡ routeOf (chainField (now (rest .entry)) places) ⌝ }
+{
+    Route {
+        places: chain_entries(rest, places),
+        count: places,
+    }
+}
+
 // ---- one record, by kind
 
-// A task record, where the first `count` numbers are those of the tasks before it.
-fn task_record(rest: &[u8], long: u64, numbers: &[u64], count: usize, places: usize) -> Record
+// A task record, where the first `count` numbers are those of the tasks before it, and `chains` chains stand before it.
+fn task_record(rest: &[u8], long: u64, numbers: &[u64], count: usize, chains: usize) -> Record
     requires { ⌜ (long ≡ lengthField (now rest)) × (long ≤ length (now rest)) × (count ≤ length (now numbers)) ⌝ }
-    ensures { λ r. ⌜ r ≡ taskRecord (take count (now (numbers .entry))) places (now (rest .entry)) ⌝ }
+    ensures { λ r. ⌜ r ≡ taskRecord (take count (now (numbers .entry))) chains (now (rest .entry)) ⌝ }
 {
     if long != 18 {
         return Record::Fault(2);
     }
-    if places != 0 {
+    if chains != 0 {
         return Record::Fault(4);
     }
     if 32 <= count {
@@ -109,9 +122,9 @@ fn last_of(numbers: &[u64], count: usize) -> u64
 }
 
 // A chain record.
-fn chain_record(rest: &[u8], long: u64, numbers: &[u64], count: usize, places: usize) -> Record
+fn chain_record(rest: &[u8], long: u64, numbers: &[u64], count: usize, chains: usize) -> Record
     requires { ⌜ (long ≡ lengthField (now rest)) × (4 ≤ long) × (long ≤ length (now rest)) × (count ≤ length (now numbers)) ⌝ }
-    ensures { λ r. ⌜ r ≡ chainRecord (take count (now (numbers .entry))) places (now (rest .entry)) ⌝ }
+    ensures { λ r. ⌜ r ≡ chainRecord (take count (now (numbers .entry))) chains (now (rest .entry)) ⌝ }
 {
     let p = (long - 4) / 2;
     if long != 4 + 2 * p {
@@ -123,7 +136,7 @@ fn chain_record(rest: &[u8], long: u64, numbers: &[u64], count: usize, places: u
     if 12 < p {
         return Record::Fault(2);
     }
-    if places != 0 {
+    if 4 <= chains {
         return Record::Fault(4);
     }
     if count == 0 {
@@ -137,22 +150,22 @@ fn chain_record(rest: &[u8], long: u64, numbers: &[u64], count: usize, places: u
 }
 
 // The end record.
-fn end_record(long: u64, places: usize) -> Record
-    ensures { λ r. ⌜ r ≡ endRecord long places ⌝ }
+fn end_record(long: u64, chains: usize) -> Record
+    ensures { λ r. ⌜ r ≡ endRecord long chains ⌝ }
 {
     if long != 4 {
         return Record::Fault(2);
     }
-    if places == 0 {
+    if chains == 0 {
         return Record::Fault(4);
     }
     Record::End
 }
 
 // The record that bytes begin with, judged in document 01's order: 1, 2, 1, 3, 2, 4, 5, 6. A further kind is one more arm.
-fn record_of(rest: &[u8], numbers: &[u64], count: usize, places: usize) -> Record
+fn record_of(rest: &[u8], numbers: &[u64], count: usize, chains: usize) -> Record
     requires { ⌜ count ≤ length (now numbers) ⌝ }
-    ensures { λ r. ⌜ r ≡ recordOf (take count (now (numbers .entry))) places (now (rest .entry)) ⌝ }
+    ensures { λ r. ⌜ r ≡ recordOf (take count (now (numbers .entry))) chains (now (rest .entry)) ⌝ }
 {
     if rest.len() < 4 {
         return Record::Fault(1);
@@ -166,13 +179,13 @@ fn record_of(rest: &[u8], numbers: &[u64], count: usize, places: usize) -> Recor
     }
     let kind = little_endian::number_at(rest, 2, 2);
     if kind == 1 {
-        return task_record(rest, long, numbers, count, places);
+        return task_record(rest, long, numbers, count, chains);
     }
     if kind == 2 {
-        return chain_record(rest, long, numbers, count, places);
+        return chain_record(rest, long, numbers, count, chains);
     }
     if kind == 3 {
-        return end_record(long, places);
+        return end_record(long, chains);
     }
     Record::Fault(3)
 }
@@ -191,13 +204,17 @@ pub fn refused(number: u64, place: usize) -> FileRead
             phase: 0,
         },
     };
+    let none = Route {
+        places: [0; 12],
+        count: 0,
+    };
     FileRead {
         refusal: Refusal { number, place },
         schedule: Schedule {
             tasks: [zero; 32],
-            chain: [0; 12],
+            routes: [none; 4],
             count: 0,
-            places: 0,
+            chains: 0,
         },
     }
 }
@@ -214,15 +231,19 @@ pub fn read_file(bytes: &[u8]) -> FileRead
             phase: 0,
         },
     };
+    let none = Route {
+        places: [0; 12],
+        count: 0,
+    };
     let mut tasks = [zero; 32];
     let mut numbers = [0u64; 32];
-    let mut chain = [0u64; 12];
+    let mut routes = [none; 4];
     let mut count: usize = 0;
-    let mut places: usize = 0;
+    let mut chains: usize = 0;
     let mut at: usize = 0;
     while at < bytes.len() {
         let rest = &bytes[at..];
-        let r = record_of(rest, &numbers, count, places);
+        let r = record_of(rest, &numbers, count, chains);
         match r {
             Record::Task(t) => {
                 numbers[count] = t.number;
@@ -231,8 +252,9 @@ pub fn read_file(bytes: &[u8]) -> FileRead
                 at += 18;
             }
             Record::Chain(p) => {
-                chain = chain_entries(rest, p);
-                places = p;
+                let c = route_of(rest, p);
+                routes[chains] = c;
+                chains += 1;
                 at += 4 + 2 * p;
             }
             Record::End => {
@@ -246,9 +268,9 @@ pub fn read_file(bytes: &[u8]) -> FileRead
                     },
                     schedule: Schedule {
                         tasks,
-                        chain,
+                        routes,
                         count,
-                        places,
+                        chains,
                     },
                 };
             }

@@ -2,7 +2,7 @@
 use Prim.Native.Nat.{ℕ, _+_, _*_, _≤_, _<_}
 use native.Mathlib.Omega.{arith}
 use mathlib.Core.Path.{_≡_, refl, sym, ap, _∙_}
-use mathlib.Core.List.{List, _++_, append-assoc}
+use mathlib.Core.List.{List, [], _++_, map, append-assoc}
 use lib.ListN.{length, take, drop, getD, length-append}
 use lib.Seq.{sets, length-sets}
 use Rattle.little_endian.specs.LittleEndian.{bytesOf}
@@ -10,9 +10,10 @@ use Rattle.little_endian.specs.Spelling.{length-bytes}
 use Rattle.little_endian.specs.Stores.{sets-append, sets-front}
 use Rattle.chain.proofs.Front.{front-cons, front-end}
 use Rattle.schedule.specs.declared.NumberedTask.{NumberedTask}
-use Rattle.schedule.specs.Schedules.{zeroNumbered}
-use Rattle.file_writer.specs.FileBytes.{taskBytes, tasksBytes, numbersBytes, chainBytes, endBytes, fileOf}
-use Rattle.file_writer.specs.Lengths.{length-task, length-tasks, length-chain}
+use Rattle.schedule.specs.declared.Route.{Route}
+use Rattle.schedule.specs.Schedules.{zeroNumbered, noRoute, placesOf}
+use Rattle.file_writer.specs.FileBytes.{taskBytes, tasksBytes, numbersBytes, chainBytes, chainsBytes, endBytes, fileOf}
+use Rattle.file_writer.specs.Lengths.{length-task, length-tasks}
 
 -- two runs, the second w bytes on
 pub two-runs : (l m n : List ℕ) (at next : ℕ) (a b : List ℕ) → at + length a ≡ next → m ≡ sets l at a → n ≡ sets m next b → n ≡ sets l at (a ++ b)
@@ -55,24 +56,48 @@ pub places-end : (out ch : List ℕ) (at places i : ℕ) → places ≤ i → pl
 unfolding numbersBytes
 places-end out ch at places i h g = rw (front-end ch places i h g)
 
--- ---- the whole file
+-- ---- chains
 
-module _ (l a b c d : List ℕ) (ts : List NumberedTask) (ch : List ℕ) (at places : ℕ) (fits : length (fileOf ts ch) ≤ length l) (from : at ≡ 18 * length ts) (counted : places ≡ length ch) where
+-- a chain record is its head and its numbers
+module _ (a b c ch : List ℕ) (at places : ℕ) (counted : places ≡ length ch) where
   head-long : at + length (bytesOf 2 (4 + 2 * places) ++ bytesOf 2 2) ≡ at + 4
   head-long = simp (length-append, length-bytes)
 
-  chain-stored : b ≡ sets a at (bytesOf 2 (4 + 2 * places) ++ bytesOf 2 2) → c ≡ sets b (at + 4) (numbersBytes ch) → c ≡ sets a at (chainBytes ch)
+  pub chain-stored : b ≡ sets a at (bytesOf 2 (4 + 2 * places) ++ bytesOf 2 2) → c ≡ sets b (at + 4) (numbersBytes ch) → c ≡ sets a at (chainBytes ch)
   unfolding chainBytes
   chain-stored hb hc =
       two-runs a b c at (at + 4) (bytesOf 2 (4 + 2 * places) ++ bytesOf 2 2) (numbersBytes ch) head-long hb hc
       ∙ ap (sets a at) (append-assoc (bytesOf 2 (4 + 2 * places)) (bytesOf 2 2) (numbersBytes ch))
       ∙ ap (λ (n : ℕ). sets a at (bytesOf 2 (4 + 2 * n) ++ (bytesOf 2 2 ++ numbersBytes ch))) counted
 
-  pub file-stored : a ≡ sets l 0 (tasksBytes ts) → b ≡ sets a at (bytesOf 2 (4 + 2 * places) ++ bytesOf 2 2) → c ≡ sets b (at + 4) (numbersBytes ch)
-      → d ≡ sets c (at + 4 + 2 * places) (bytesOf 2 4 ++ bytesOf 2 3) → d ≡ fileOf ts ch ++ drop (length (fileOf ts ch)) l
+-- the chains from i on, of the first `chains` routes
+abbrev pub left : List Route → ℕ → ℕ → List ℕ
+left rs chains i = chainsBytes (map placesOf (drop i (take chains rs)))
+
+module _ (rs : List Route) (chains i : ℕ) (h : i < chains) (g : chains ≤ length rs) where
+  left-cons : left rs chains i ≡ chainBytes (placesOf (getD rs i noRoute)) ++ left rs chains (i + 1)
+  unfolding chainsBytes
+  left-cons = rw (front-cons rs chains i noRoute h g)
+
+  pub left-long : length (left rs chains i) ≡ length (chainBytes (placesOf (getD rs i noRoute))) + length (left rs chains (i + 1))
+  left-long = ap length left-cons ∙ length-append (chainBytes (placesOf (getD rs i noRoute))) (left rs chains (i + 1))
+
+  pub routes-turn : (out m : List ℕ) (at next : ℕ) → at + length (chainBytes (placesOf (getD rs i noRoute))) ≡ next → m ≡ sets out at (chainBytes (placesOf (getD rs i noRoute)))
+      → sets out at (left rs chains i) ≡ sets m next (left rs chains (i + 1))
+  routes-turn out m at next s e =
+      ap (sets out at) left-cons ∙ sym (two-runs out m _ at next (chainBytes (placesOf (getD rs i noRoute))) (left rs chains (i + 1)) s e refl)
+
+module _ (rs : List Route) (chains i : ℕ) (h : chains ≤ i) (g : chains ≤ length rs) where
+  pub left-none : left rs chains i ≡ []
+  unfolding chainsBytes
+  left-none = rw (front-end rs chains i h g)
+
+-- ---- the whole file
+
+module _ (l a b d : List ℕ) (ts : List NumberedTask) (chs : List (List ℕ)) (from at : ℕ) (fits : length (fileOf ts chs) ≤ length l) (start : from ≡ 18 * length ts) (next : at ≡ from + length (chainsBytes chs)) where
+  pub file-stored : a ≡ sets l 0 (tasksBytes ts) → b ≡ sets a from (chainsBytes chs) → d ≡ sets b at (bytesOf 2 4 ++ bytesOf 2 3) → d ≡ fileOf ts chs ++ drop (length (fileOf ts chs)) l
   unfolding fileOf endBytes
-  file-stored ha hb hc hd =
-      let e : at + length (chainBytes ch) ≡ at + 4 + 2 * places = omega (arith, length-chain ch) in
-      let f : 0 + length (tasksBytes ts) ≡ at = omega (arith, length-tasks ts) in
-      let g : d ≡ sets a at (chainBytes ch ++ endBytes) = two-runs a c d at (at + 4 + 2 * places) (chainBytes ch) endBytes e (chain-stored hb hc) hd in
-      two-runs l a d 0 at (tasksBytes ts) (chainBytes ch ++ endBytes) f ha g ∙ sets-front l (fileOf ts ch) fits
+  file-stored ha hb hd =
+      let f : 0 + length (tasksBytes ts) ≡ from = omega (arith, length-tasks ts) in
+      let g : d ≡ sets a from (chainsBytes chs ++ endBytes) = two-runs a b d from at (chainsBytes chs) endBytes (sym next) hb hd in
+      two-runs l a d 0 from (tasksBytes ts) (chainsBytes chs ++ endBytes) f ha g ∙ sets-front l (fileOf ts chs) fits

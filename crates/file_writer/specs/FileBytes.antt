@@ -1,11 +1,11 @@
--- Document 01, "Schedule file": the bytes of a schedule. Records of length (2 bytes, the whole record), kind (2 bytes), body; little-endian.
+-- Document 01, "Schedule file", with order 1 of document 02: the bytes of a schedule. Records of length (2 bytes, the whole record), kind (2 bytes), body; little-endian.
 use Prim.Native.Nat.{ℕ, _+_, _*_}
 use mathlib.Core.List.{List, [], _∷_, _++_}
 use lib.ListN.{length}
 use Rattle.little_endian.specs.LittleEndian.{bytesOf}
 use Rattle.schedule.specs.declared.NumberedTask.{NumberedTask}
 use Rattle.schedule.specs.declared.Schedule.{Schedule}
-use Rattle.schedule.specs.Schedules.{tasksIn, placesIn}
+use Rattle.schedule.specs.Schedules.{tasksIn, chainsIn}
 
 -- Kind 1, length 18: task number (2 bytes), T, D, F (4 bytes each).
 unfoldable pub taskBytes : NumberedTask → List ℕ
@@ -22,17 +22,21 @@ unfoldable pub numbersBytes : List ℕ → List ℕ
 numbersBytes [] = []
 numbersBytes (n ∷ l) = bytesOf 2 n ++ numbersBytes l
 
--- Kind 2, length 4 + 2 × places: the task numbers of the chain.
+-- Kind 2, length 4 + 2 × places: the task numbers of a chain.
 unfoldable pub chainBytes : List ℕ → List ℕ
 chainBytes chain = bytesOf 2 (4 + 2 * length chain) ++ (bytesOf 2 2 ++ numbersBytes chain)
+
+unfoldable pub chainsBytes : List (List ℕ) → List ℕ
+chainsBytes [] = []
+chainsBytes (ch ∷ chs) = chainBytes ch ++ chainsBytes chs
 
 -- Kind 3, length 4: end.
 unfoldable pub endBytes : List ℕ
 endBytes = bytesOf 2 4 ++ bytesOf 2 3
 
--- First the tasks, then the chain, then end, then nothing.
-unfoldable pub fileOf : List NumberedTask → List ℕ → List ℕ
-fileOf tasks chain = tasksBytes tasks ++ (chainBytes chain ++ endBytes)
+-- First the tasks, then the chains, then end, then nothing.
+unfoldable pub fileOf : List NumberedTask → List (List ℕ) → List ℕ
+fileOf tasks chains = tasksBytes tasks ++ (chainsBytes chains ++ endBytes)
 
 abbrev pub fileBytes : Schedule → List ℕ
-fileBytes s = fileOf (tasksIn s) (placesIn s)
+fileBytes s = fileOf (tasksIn s) (chainsIn s)

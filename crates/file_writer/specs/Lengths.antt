@@ -6,7 +6,7 @@ use mathlib.Core.List.{List, [], _∷_}
 use lib.ListN.{length, length-append}
 use Rattle.little_endian.specs.Spelling.{length-bytes}
 use Rattle.schedule.specs.declared.NumberedTask.{NumberedTask}
-use Rattle.file_writer.specs.FileBytes.{taskBytes, tasksBytes, numbersBytes, chainBytes, endBytes, fileOf}
+use Rattle.file_writer.specs.FileBytes.{taskBytes, tasksBytes, numbersBytes, chainBytes, chainsBytes, endBytes, fileOf}
 
 pub length-task : (t : NumberedTask) → length (taskBytes t) ≡ 18
 unfolding taskBytes
@@ -30,6 +30,6 @@ pub length-end : length endBytes ≡ 4
 unfolding endBytes
 length-end = simp (length-append, length-bytes)
 
-pub length-file : (ts : List NumberedTask) (ch : List ℕ) → length (fileOf ts ch) ≡ 18 * length ts + 8 + 2 * length ch
+pub length-file : (ts : List NumberedTask) (chs : List (List ℕ)) → length (fileOf ts chs) ≡ 18 * length ts + length (chainsBytes chs) + 4
 unfolding fileOf
-length-file ts ch = simp (length-append, length-end) (omega (arith, length-tasks ts, length-chain ch))
+length-file ts chs = simp (length-append, length-end) (omega (arith, length-tasks ts))

@@ -2,16 +2,19 @@
 // `write_file` is the entry point; the other functions judge a schedule or store one part of its file.
 use refusal::Refusal;
 use schedule::NumberedTask;
+use schedule::Route;
 use schedule::Schedule;
 ghost use mathlib.Core.Path.{_≡_};
-ghost use mathlib.Core.List.{_++_};
-ghost use Rattle.refusal.specs.Refusals.{refusal};
+ghost use mathlib.Core.Bool.{true};
+ghost use mathlib.Core.List.{_++_, map};
 ghost use Rattle.little_endian.specs.LittleEndian.{bytesOf};
 ghost use Prim.Native.Nat.{_+_, _*_, _≤_, _<_};
 ghost use lib.ListN.{length, take};
 ghost use lib.Seq.{sets};
-ghost use Rattle.file_writer.specs.Writing.{firstFault, firstUnknown, writtenOf, Writes};
-ghost use Rattle.file_writer.specs.FileBytes.{taskBytes, tasksBytes, numbersBytes};
+ghost use Rattle.schedule.specs.Schedules.{placesOf};
+ghost use Rattle.schedule_checks.specs.Checks.{placesRight};
+ghost use Rattle.file_writer.specs.Writing.{writtenOf, Writes};
+ghost use Rattle.file_writer.specs.FileBytes.{taskBytes, tasksBytes, numbersBytes, chainBytes, chainsBytes};
 
 // The length of the file that was written, or the refusal.
 pub enum Written {
@@ -21,82 +24,45 @@ pub enum Written {
 
 // ---- the checks
 
-// The lowest position whose task has a number or a value outside its rule, or 0.
-fn first_fault(tasks: [NumberedTask; 32], count: usize) -> usize
-    requires { ⌜ count ≤ 32 ⌝ }
-    ensures { λ r. ⌜ r ≡ firstFault 1 0 (take count tasks) ⌝ }
+// The length of a chain record.
+fn route_length(c: Route) -> usize
+    requires { ⌜ c .count ≤ 12 ⌝ }
+    ensures { λ r. ⌜ (r ≡ length (chainBytes (placesOf c))) × (r ≤ 28) ⌝ }
 {
-    let mut before: u64 = 0;
-    let mut i: usize = 0;
-    while i < count {
-        let t = tasks[i];
-        if schedule::follows(before, t) {
-            before = t.number;
-            i += 1;
-        } else {
-            return i + 1;
-        }
-    }
-    0
+    4 + 2 * c.count
 }
 
-// The lowest place of the chain whose number no task has, or 0.
-fn first_unknown(chain: [u64; 12], places: usize, numbers: &[u64], count: usize) -> usize
-    requires { ⌜ (places ≤ 12) × (count ≤ length (now numbers)) ⌝ }
-    ensures { λ r. ⌜ r ≡ firstUnknown 1 (take count (now (numbers .entry))) (take places chain) ⌝ }
+// The length of the chain records.
+fn routes_length(routes: [Route; 4], chains: usize) -> usize
+    requires { ⌜ (chains ≤ 4) × (placesRight (take chains routes) ≡ true) ⌝ }
+    ensures { λ r. ⌜ (r ≡ length (chainsBytes (map placesOf (take chains routes)))) × (r ≤ 112) ⌝ }
 {
+    let mut long: usize = 0;
     let mut i: usize = 0;
-    while i < places {
-        let n = chain[i];
-        if schedule::find(numbers, count, n) < count {
-            i += 1;
-        } else {
-            return i + 1;
-        }
+    while i < chains {
+        long += route_length(routes[i]);
+        i += 1;
     }
-    0
+    long
 }
 
 // What writing answers, `lent` bytes being lent to it: 8, 5, 6, 11, or the file's length.
 fn judge(s: Schedule, lent: usize) -> Written
     ensures { λ r. ⌜ r ≡ writtenOf s lent ⌝ }
 {
-    if s.count < 1 {
-        return refused(8, 0);
+    let r = schedule_checks::fault_of(s);
+    if r.number != 0 {
+        return Written::Refused(r);
     }
-    if 32 < s.count {
-        return refused(8, 0);
-    }
-    if s.places < 1 {
-        return refused(8, 0);
-    }
-    if 12 < s.places {
-        return refused(8, 0);
-    }
-    let tasks = s.tasks;
-    let chain = s.chain;
-    let count = s.count;
-    let places = s.places;
-    let t = first_fault(tasks, count);
-    if t != 0 {
-        return refused(5, t);
-    }
-    let numbers = schedule::numbers_of(tasks);
-    let p = first_unknown(chain, places, &numbers, count);
-    if p != 0 {
-        return refused(6, p);
-    }
-    let long = 18 * count + 8 + 2 * places;
+    let routes = s.routes;
+    let long = 18 * s.count + routes_length(routes, s.chains) + 4;
     if lent < long {
-        return refused(11, 0);
+        return Written::Refused(Refusal {
+            number: 11,
+            place: 0,
+        });
     }
     Written::Bytes(long)
-}
-
-fn refused(number: u64, place: usize) -> Written
-    ensures { λ r. ⌜ r ≡ Written.Refused (refusal number place) ⌝ }
-{
-    Written::Refused(Refusal { number, place })
 }
 
 // ---- the parts of the file
@@ -127,7 +93,7 @@ fn put_tasks(out: &mut [u8], tasks: [NumberedTask; 32], count: usize)
     }
 }
 
-// Stores the numbers of the chain, 2 bytes each.
+// Stores the numbers of a chain, 2 bytes each.
 fn put_places(out: &mut [u8], at: usize, chain: [u64; 12], places: usize)
     requires { ⌜ (places ≤ 12) × (at + 2 * places ≤ length (now out)) ⌝ }
     ensures { λ _. ⌜ now (out .exit) ≡ sets (now (out .entry)) at (numbersBytes (take places chain)) ⌝ }
@@ -148,6 +114,31 @@ fn put_head(out: &mut [u8], at: usize, long: u64, kind: u64)
     little_endian::put_number(out, at + 2, 2, kind);
 }
 
+// Stores a chain record, and answers the offset after it.
+fn put_route(out: &mut [u8], at: usize, c: Route) -> usize
+    requires { ⌜ (c .count ≤ 12) × (at + length (chainBytes (placesOf c)) ≤ length (now out)) ⌝ }
+    ensures { λ r. ⌜ (now (out .exit) ≡ sets (now (out .entry)) at (chainBytes (placesOf c))) × (r ≡ at + length (chainBytes (placesOf c))) ⌝ }
+{
+    let places = c.places;
+    put_head(out, at, 4 + 2 * (c.count as u64), 2);
+    put_places(out, at + 4, places, c.count);
+    at + 4 + 2 * c.count
+}
+
+// Stores the chain records, and answers the offset after them.
+fn put_routes(out: &mut [u8], from: usize, routes: [Route; 4], chains: usize) -> usize
+    requires { ⌜ (chains ≤ 4) × (placesRight (take chains routes) ≡ true) × (from + length (chainsBytes (map placesOf (take chains routes))) ≤ length (now out)) ⌝ }
+    ensures { λ r. ⌜ (now (out .exit) ≡ sets (now (out .entry)) from (chainsBytes (map placesOf (take chains routes)))) × (r ≡ from + length (chainsBytes (map placesOf (take chains routes)))) ⌝ }
+{
+    let mut at = from;
+    let mut i: usize = 0;
+    while i < chains {
+        at = put_route(out, at, routes[i]);
+        i += 1;
+    }
+    at
+}
+
 // Writes a schedule's file into lent bytes.
 pub fn write_file(s: Schedule, out: &mut [u8]) -> Written
     ensures { λ r. ⌜ Writes s (now (out .entry)) r (now (out .exit)) ⌝ }
@@ -160,13 +151,11 @@ pub fn write_file(s: Schedule, out: &mut [u8]) -> Written
         Written::Bytes(_) => {}
     }
     let tasks = s.tasks;
-    let chain = s.chain;
+    let routes = s.routes;
     let count = s.count;
-    let places = s.places;
+    let chains = s.chains;
     put_tasks(out, tasks, count);
-    let at = 18 * count;
-    put_head(out, at, 4 + 2 * (places as u64), 2);
-    put_places(out, at + 4, chain, places);
-    put_head(out, at + 4 + 2 * places, 4, 3);
+    let at = put_routes(out, 18 * count, routes, chains);
+    put_head(out, at, 4, 3);
     w
 }

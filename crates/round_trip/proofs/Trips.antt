@@ -10,6 +10,7 @@ use borrow.Author.Tests.{eq-eqb, ne-eqb}
 use Rattle.refusal.specs.declared.Refusal.{Refusal}
 use Rattle.little_endian.specs.LittleEndian.{Bytes}
 use Rattle.schedule.specs.declared.Schedule.{Schedule}
+use Rattle.schedule.specs.Arrays.{Arrays}
 use Rattle.file_reader.specs.declared.FileRead.{FileRead}
 use Rattle.file_reader.specs.Reading.{refusedFile, readFile}
 use Rattle.file_writer.specs.declared.Written.{Written}
@@ -17,7 +18,7 @@ use Rattle.file_writer.specs.declared.Written.the-variants as written
 use Rattle.file_writer.specs.FileBytes.{fileBytes}
 use Rattle.file_writer.specs.Writing.{lengthVerdict, leftBytes, writtenOf, Writes}
 use Rattle.file_writer.specs.Accepted.{accepted}
-use Rattle.round_trip.specs.RoundTrips.{Arrays, rewrittenOf, rereadAfter, Rewrites, Rereads, read-after-write, spelt-again, written-again}
+use Rattle.round_trip.specs.RoundTrips.{rewrittenOf, rereadAfter, Rewrites, Rereads, read-after-write, spelt-again, written-again}
 
 -- ---- reading, then writing
 

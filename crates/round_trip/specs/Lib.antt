@@ -3,4 +3,3 @@ pub mod Right
 pub mod ReadAfterWrite
 pub mod WriteAfterRead
 pub mod RoundTrips
-pub mod RightChain

@@ -1,27 +1,76 @@
--- Tasks and a chain that writing accepts and reading ends with.
-use Prim.Native.Nat.{ℕ, suc, _+_, _-_, _≤_, _<_}
+-- Tasks and chains that writing accepts and reading ends with.
+use Prim.Native.Nat.{ℕ, zero, suc, _+_, _-_, _≤_, _<_}
 use native.Mathlib.Omega.{arith}
 use mathlib.Core.Path.{_≡_, refl, ap, _∙_}
 use mathlib.Core.Bool.{Bool, true, false, cond}
 use mathlib.Core.List.{List, [], _∷_, _++_, map}
 use lib.Dec.{eqb}
 use lib.ListN.{length, getD}
+use lib.Seq.{length-take-le}
 use borrow.Author.Tests.{eqb-true}
 use Rattle.little_endian.specs.LittleEndian.{power}
 use Rattle.schedule.specs.declared.NumberedTask.{NumberedTask}
-use Rattle.schedule.specs.Schedules.{numberOf, taskRule, known}
+use Rattle.schedule.specs.declared.Route.{Route}
+use Rattle.schedule.specs.Schedules.{numberOf, taskRule, known, placesOf, noRoute, routeOf, emptyRoute}
+use Rattle.schedule.specs.Padding.{take-padded, length-padded}
 use Rattle.schedule.specs.Rule.{rule}
 use Rattle.file_reader.specs.Reading.{lastOf, allKnown}
-use Rattle.file_writer.specs.Writing.{firstFault, firstUnknown}
+use Rattle.schedule_checks.specs.Checks.{placesRight, firstFault, firstUnknown, unknownPlace}
+use Rattle.schedule_checks.specs.SoundSchedule.{right-count, placed-cons, known-cons, fault-cons}
 use Rattle.round_trip.specs.RecordBytes.{FitsTask, Small, none, more}
 
-pub record Right (ts : List NumberedTask) (ch : List ℕ) : Type 0 where
+-- Each chain has 1 to 12 places, with numbers of tasks.
+pub data Placed (ns : List ℕ) : List (List ℕ) → Type 0 where
+  no-chain : Placed ns []
+  one-more : {ch : List ℕ} {chs : List (List ℕ)} → 1 ≤ length ch → length ch ≤ 12 → firstUnknown 1 ns ch ≡ 0 → Placed ns chs → Placed ns (ch ∷ chs)
+
+pub record Right (ts : List NumberedTask) (chs : List (List ℕ)) : Type 0 where
   pub some : 1 ≤ length ts
   pub few : length ts ≤ 32
   pub tasks-right : firstFault 1 0 ts ≡ 0
-  pub placed : 1 ≤ length ch
-  pub few-places : length ch ≤ 12
-  pub places-known : firstUnknown 1 (map numberOf ts) ch ≡ 0
+  pub chained : 1 ≤ length chs
+  pub few-chains : length chs ≤ 4
+  pub placed : Placed (map numberOf ts) chs
+
+-- a chain more, after the last
+pub placed-snoc : (ns : List ℕ) (chs : List (List ℕ)) (ch : List ℕ) → Placed ns chs → 1 ≤ length ch → length ch ≤ 12 → firstUnknown 1 ns ch ≡ 0 → Placed ns (chs ++ (ch ∷ []))
+placed-snoc ns [] ch no-chain a b k = one-more a b k no-chain
+placed-snoc ns (x ∷ chs) ch (one-more c d e r) a b k = one-more c d e (placed-snoc ns chs ch r a b k)
+
+-- of routes whose counts the judge finds right, and whose numbers it knows
+pub placed-routes : (ns : List ℕ) (rs : List Route) → ((i : ℕ) → i < length rs → length (getD rs i noRoute .places) ≡ 12) → placesRight rs ≡ true → unknownPlace ns (map placesOf rs) ≡ 0 → Placed ns (map placesOf rs)
+placed-routes ns [] twelve h u = no-chain
+placed-routes ns (r ∷ rs) twelve h u =
+    let k = placed-cons r rs h in
+    let w = known-cons ns (placesOf r) (map placesOf rs) u in
+    let n : length (placesOf r) ≡ r .count = length-take-le (r .count) (r .places) (omega (arith, twelve 0 (omega arith), k .1)) in
+    one-more {ch = placesOf r} (omega (arith, k .0)) (omega (arith, k .1)) (w .0) (placed-routes ns rs (λ i g. twelve (suc i) (omega arith)) (k .2) (w .1))
+
+-- and back: routes of such chains
+pub routes-placed : (ns : List ℕ) (chs : List (List ℕ)) → Placed ns chs → placesRight (map routeOf chs) ≡ true
+unfolding placesRight
+routes-placed ns [] no-chain = refl
+routes-placed ns (ch ∷ chs) (one-more a b u r) = rw (right-count (length ch) 12 a b) (routes-placed ns chs r)
+
+pub routes-known : (ns : List ℕ) (chs : List (List ℕ)) → Placed ns chs → unknownPlace ns chs ≡ 0
+unfolding unknownPlace
+routes-known ns [] no-chain = refl
+routes-known ns (ch ∷ chs) (one-more a b u r) = rw u (routes-known ns chs r)
+
+-- such a route has the chain's places
+pub routes-same : (ns : List ℕ) (chs : List (List ℕ)) → Placed ns chs → map placesOf (map routeOf chs) ≡ chs
+routes-same ns [] no-chain = refl
+routes-same ns (ch ∷ chs) (one-more a b u r) = ap (λ (x : List ℕ). x ∷ map placesOf (map routeOf chs)) (take-padded 0 12 ch b) ∙ ap (λ (x : List (List ℕ)). ch ∷ x) (routes-same ns chs r)
+
+pub routes-twelve : (ns : List ℕ) (chs : List (List ℕ)) → Placed ns chs → (i : ℕ) → length (getD (map routeOf chs) i emptyRoute .places) ≡ 12
+routes-twelve ns [] no-chain i = refl
+routes-twelve ns (ch ∷ chs) (one-more a b u r) zero = length-padded 0 12 ch b
+routes-twelve ns (ch ∷ chs) (one-more a b u r) (suc i) = routes-twelve ns chs r i
+
+pub routes-few : (ns : List ℕ) (chs : List (List ℕ)) → Placed ns chs → (i : ℕ) → getD (map routeOf chs) i emptyRoute .count ≤ 12
+routes-few ns [] no-chain i = omega arith
+routes-few ns (ch ∷ chs) (one-more a b u r) zero = b
+routes-few ns (ch ∷ chs) (one-more a b u r) (suc i) = routes-few ns chs r i
 
 -- ---- the rule of a task
 
@@ -36,15 +85,6 @@ rule-fits before t h =
       duration = omega (arith, r .within .duration-max);
       phase = omega (arith, r .within .phase-max);
     }
-
--- no fault from position p on: the first task keeps the rule, and there is none after it
-pub fault-cons : (p before : ℕ) (t : NumberedTask) (ts : List NumberedTask) → 1 ≤ p → firstFault p before (t ∷ ts) ≡ 0 → (taskRule before t ≡ true) × (firstFault (p + 1) (t .number) ts ≡ 0)
-unfolding firstFault
-fault-cons p before t ts pos h = go (taskRule before t) refl h
-  where
-    go : (b : Bool) → taskRule before t ≡ b → cond b (firstFault (p + 1) (t .number) ts) p ≡ 0 → (taskRule before t ≡ true) × (firstFault (p + 1) (t .number) ts ≡ 0)
-    go true e k = (e, k)
-    go false e k = absurd (omega arith)
 
 -- a task more, after the last
 last-of : ℕ → List NumberedTask → ℕ

@@ -1,4 +1,5 @@
 pub mod Schedules
+pub mod Arrays
 pub mod Padding
 pub mod Numbers
 pub mod Rule

@@ -47,6 +47,15 @@ module _ {A : Type 0} (d : A) where
   take-padded zero (x ∷ l) h = absurd (omega arith)
   take-padded (suc n) (x ∷ l) h = ap (λ (r : List A). x ∷ r) (take-padded n l (omega arith))
 
+  -- an entry of the array is that of the list, and d past it; e is never had
+  pub padded-at : (n : ℕ) (l : List A) (i : ℕ) (e : A) → i < n → getD (padded n d l) i e ≡ getD l i d
+  unfolding padded
+  padded-at zero l i e h = absurd (omega arith)
+  padded-at (suc n) [] zero e h = refl
+  padded-at (suc n) [] (suc i) e h = padded-at n [] i e (omega arith)
+  padded-at (suc n) (x ∷ l) zero e h = refl
+  padded-at (suc n) (x ∷ l) (suc i) e h = padded-at n l i e (omega arith)
+
 -- one entry more of a list that is taken over through f
 map-more : {A B : Type 0} (f : A → B) (l : List A) (i : ℕ) (a : A) → i < length l → map f (take (suc i) l) ≡ map f (take i l) ++ (f (getD l i a) ∷ [])
 map-more f [] i a h = absurd (omega arith)

@@ -1,25 +1,36 @@
--- Document 01, "Tasks and jobs" and "Schedule file": the tasks of a schedule with their numbers, and the tasks at the places of its chain.
-use Prim.Native.Nat.{ℕ, zero, suc}
+-- Document 01, "Tasks and jobs" and "Schedule file", with order 1 of document 02: the tasks of a schedule with their numbers, its chains, and the tasks at their places.
+use Prim.Native.Nat.{ℕ, zero, suc, _-_}
 use mathlib.Core.Bool.{Bool, true, false, cond, _&&_}
 use mathlib.Core.List.{List, [], _∷_, map}
 use lib.Dec.{ltb, leb, eqb}
-use lib.ListN.{length, take, replicate}
+use lib.ListN.{length, getD, take, replicate}
 use Rattle.task.specs.declared.Task.{Task}
 use Rattle.task.specs.Jobs.{withinLimits}
 use Rattle.chain.specs.declared.Chain.{Chain}
 use Rattle.chain.specs.Chains.{zeroTask}
 use Rattle.schedule.specs.declared.NumberedTask.{NumberedTask}
+use Rattle.schedule.specs.declared.Route.{Route}
 use Rattle.schedule.specs.declared.Schedule.{Schedule}
 
 abbrev pub numberOf : NumberedTask → ℕ
 numberOf t = t .number
 
--- The tasks and the chain of a schedule. Array entries past a count are no part of it.
+-- The tasks of a schedule. Array entries past a count are no part of it.
 abbrev pub tasksIn : Schedule → List NumberedTask
 tasksIn s = take (s .count) (s .tasks)
 
-abbrev pub placesIn : Schedule → List ℕ
-placesIn s = take (s .places) (s .chain)
+-- Its chains: the task numbers at the places of each.
+abbrev pub placesOf : Route → List ℕ
+placesOf r = take (r .count) (r .places)
+
+abbrev pub countOf : Route → ℕ
+countOf r = r .count
+
+abbrev pub routesIn : Schedule → List Route
+routesIn s = take (s .chains) (s .routes)
+
+abbrev pub chainsIn : Schedule → List (List ℕ)
+chainsIn s = map placesOf (routesIn s)
 
 -- The rule of a task's number and values, `before` being the number of the task before it, 0 for the first task:
 -- numbers from 1 to 65,535 that rise strictly, and a period, duration and phase inside their limits.
@@ -51,17 +62,30 @@ padded zero d l = l
 padded (suc n) d [] = d ∷ padded n d []
 padded (suc n) d (x ∷ l) = x ∷ padded n d l
 
--- The chain of a schedule: the tasks at its places.
-abbrev pub chainOf : Schedule → Chain
-chainOf s = record { tasks = padded 12 zeroTask (map (taskNumbered (tasksIn s)) (placesIn s)); places = s .places }
+-- The chain of a route among tasks: the tasks at its places.
+abbrev pub chainOf : List NumberedTask → Route → Chain
+chainOf ts r = record { tasks = padded 12 zeroTask (map (taskNumbered ts) (placesOf r)); places = r .count }
+
+-- Chain n of a schedule, numbered by its place from 1; no places where there is none.
+abbrev pub noRoute : Route
+noRoute = record { places = []; count = 0 }
+
+abbrev pub chainAt : Schedule → ℕ → Chain
+chainAt s n = chainOf (tasksIn s) (getD (s .routes) (n - 1) noRoute)
 
 abbrev pub zeroNumbered : NumberedTask
 zeroNumbered = record { number = 0; task = zeroTask }
 
--- The schedule of a list of tasks and a chain: zeros past the counts.
-abbrev pub scheduleOf : List NumberedTask → List ℕ → Schedule
-scheduleOf ts ch = record { tasks = padded 32 zeroNumbered ts; chain = padded 12 0 ch; count = length ts; places = length ch }
+-- The schedule of a list of tasks and a list of chains: zeros past the counts.
+abbrev pub emptyRoute : Route
+emptyRoute = record { places = replicate 12 0; count = 0 }
+
+abbrev pub routeOf : List ℕ → Route
+routeOf ch = record { places = padded 12 0 ch; count = length ch }
+
+abbrev pub scheduleOf : List NumberedTask → List (List ℕ) → Schedule
+scheduleOf ts chs = record { tasks = padded 32 zeroNumbered ts; routes = padded 4 emptyRoute (map routeOf chs); count = length ts; chains = length chs }
 
 -- A schedule of zeros.
 abbrev pub emptySchedule : Schedule
-emptySchedule = record { tasks = replicate 32 zeroNumbered; chain = replicate 12 0; count = 0; places = 0 }
+emptySchedule = record { tasks = replicate 32 zeroNumbered; routes = replicate 4 emptyRoute; count = 0; chains = 0 }

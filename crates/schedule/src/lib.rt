@@ -1,12 +1,12 @@
-// A schedule by value: its tasks with their numbers, the places of its chain, and their two counts.
-// `chain_of` takes any schedule. `follows` takes any task, `numbers_of` and `at_most` any values; what `find` requires is proved by the crates that call them.
+// A schedule by value: its tasks with their numbers, its chains as the task numbers at their places, and their counts.
+// `chain_of` takes any schedule and any route. `follows` takes any task, `numbers_of` and `at_most` any values; what `find` requires is proved by the crates that call them.
 use chain::Chain;
 use task::Task;
 ghost use mathlib.Core.Path.{_≡_};
 ghost use mathlib.Core.List.{map};
 ghost use Prim.Native.Nat.{_+_, _*_, _≤_, _<_};
 ghost use lib.ListN.{length, take};
-ghost use Rattle.schedule.specs.Schedules.{numberOf, taskRule, positionOf, least, chainOf};
+ghost use Rattle.schedule.specs.Schedules.{numberOf, tasksIn, taskRule, positionOf, least, chainOf};
 
 // A task and its number in the schedule.
 pub struct NumberedTask {
@@ -14,12 +14,18 @@ pub struct NumberedTask {
     pub task: Task,
 }
 
-// Document 01: up to 32 tasks and one chain of 1 to 12 places. A place holds the number of its task. Entries from a count on are no part of the schedule.
+// A chain of a schedule: the number of the task at each place, and how many places there are, 1 to 12.
+pub struct Route {
+    pub places: [u64; 12],
+    pub count: usize,
+}
+
+// Document 01 with order 1 of document 02: up to 32 tasks and 1 to 4 chains, numbered by their place from 1. Entries from a count on are no part of the schedule.
 pub struct Schedule {
     pub tasks: [NumberedTask; 32],
-    pub chain: [u64; 12],
+    pub routes: [Route; 4],
     pub count: usize,
-    pub places: usize,
+    pub chains: usize,
 }
 
 // Whether a task may follow one with the number `before`: its number is above that one and at most 65,535, and its values are inside their limits.
@@ -71,9 +77,9 @@ pub fn find(numbers: &[u64], count: usize, n: u64) -> usize
     count
 }
 
-// The chain of a schedule: the tasks at its places. A number that no task has gives a task of zeros, which every analysis refuses.
-pub fn chain_of(s: Schedule) -> Chain
-    ensures { λ r. ⌜ r ≡ chainOf s ⌝ }
+// The chain of a route in a schedule: the tasks at its places. A number that no task has gives a task of zeros, which every analysis refuses.
+pub fn chain_of(s: Schedule, r: Route) -> Chain
+    ensures { λ c. ⌜ c ≡ chainOf (tasksIn s) r ⌝ }
 {
     let zero = Task {
         period: 0,
@@ -82,11 +88,11 @@ pub fn chain_of(s: Schedule) -> Chain
     };
     let numbers = numbers_of(s.tasks);
     let count = at_most(s.count, 32);
-    let places = at_most(s.places, 12);
+    let places = at_most(r.count, 12);
     let mut tasks = [zero; 12];
     let mut i: usize = 0;
     while i < places {
-        let at = find(&numbers, count, s.chain[i]);
+        let at = find(&numbers, count, r.places[i]);
         if at < count {
             let t = s.tasks[at];
             let a = t.task;
@@ -98,6 +104,6 @@ pub fn chain_of(s: Schedule) -> Chain
     }
     Chain {
         tasks,
-        places: s.places,
+        places: r.count,
     }
 }

@@ -1,7 +1,7 @@
 use mathlib.Core.List.{List}
 use lib.ListN.{take, drop, length-drop}
 use lib.Seq.{take-all}
-use Rattle.schedule.specs.Schedules.{padded}
+use Rattle.schedule.specs.Schedules.{routeOf}
 use Rattle.file_reader.specs.Reading.{chainField, recordOf}
 use native.Mathlib.Omega.{arith}
 use Prim.Native.Nat.{ℕ, _+_, _-_, _*_, _≤_, _<_}
@@ -11,31 +11,26 @@ use Rattle.file_reader.proofs.Going.{Going, going-start, going-long, ta
 use borrow.Author.Needs.{needs}
 use Rattle.file_reader.proofs.read_file.Statement.{statement}
 use Rattle.file_reader.proofs.read_file.Tie as tie
-use Rattle.file_reader.proofs.read_file.Reads as reads
-use Rattle.file_reader.proofs.read_file.Lts as lts
-use Rattle.file_reader.proofs.chain_entries.Reads as chain-entries-reads
-use Rattle.file_reader.proofs.record_of.Reads as record-of-reads
-use Rattle.file_reader.proofs.refused.Reads as refused-reads
 
 abbrev Inv-loop : tie.InvT-loop
-Inv-loop bytes tasks₀ numbers₀ chain₀ count₀ places₀ at₀ tasks numbers chain count places at = Going bytes tasks numbers chain count places at
+Inv-loop bytes tasks₀ numbers₀ routes₀ count₀ chains₀ at₀ tasks numbers routes count chains at = Going bytes tasks numbers routes count chains at
 
 abbrev μ-loop : tie.MeasureT-loop
-μ-loop bytes tasks₀ numbers₀ chain₀ count₀ places₀ at₀ tasks numbers chain count places at = length bytes - at
+μ-loop bytes tasks₀ numbers₀ routes₀ count₀ chains₀ at₀ tasks numbers routes count chains at = length bytes - at
 
 rest-is : (l : List ℕ) (at : ℕ) → take (length l - at) (drop at l) ≡ drop at l
 rest-is l at = take-all (length l - at) (drop at l) (simp length-drop (omega arith))
 
 -- what was judged are the bytes from here on
-judged : (c : tie.After-record-of Inv-loop μ-loop) → c .record-of .result ≡ recordOf (take (c .before .before .before .before .loop .count) (c .before .before .before .before .loop .numbers)) (c .before .before .before .before .loop .places) (drop (c .before .before .before .before .loop .at) (c .before .before .before .before .before .before .args .bytes .now))
-judged c = c .record-of .ensures ∙ ap (recordOf (take (c .before .before .before .before .loop .count) (c .before .before .before .before .loop .numbers)) (c .before .before .before .before .loop .places)) (rest-is (c .before .before .before .before .before .before .args .bytes .now) (c .before .before .before .before .loop .at))
+judged : (c : tie.After-record-of Inv-loop μ-loop) → c .record-of .result ≡ recordOf (take (c .before .before .before .before .loop .count) (c .before .before .before .before .loop .numbers)) (c .before .before .before .before .loop .chains) (drop (c .before .before .before .before .loop .at) (c .before .before .before .before .before .before .args .bytes .now))
+judged c = c .record-of .ensures ∙ ap (recordOf (take (c .before .before .before .before .loop .count) (c .before .before .before .before .loop .numbers)) (c .before .before .before .before .loop .chains)) (rest-is (c .before .before .before .before .before .before .args .bytes .now) (c .before .before .before .before .loop .at))
 
 -- a task fits its array and a record the file
 task-room : (c : tie.After-known-told Inv-loop μ-loop) → (c .before .before .before .before .before .before .before .loop .at + 18 ≤ length (c .before .before .before .before .before .before .before .before .before .args .bytes .now)) × (c .before .before .before .before .before .before .before .loop .count < 32)
 task-room c = task-inside _ _ _ _ _ _ _ (c .before .before .before .before .before .before .before .loop .inv) (c .before .before .before .before .before .before .loop-test .taken) (c .before .r .given .0 .0) (sym (c .before .r .given .1) ∙ judged (c .before .before .before))
 
 chain-room : (c : tie.After-known-told2 Inv-loop μ-loop)
-    → (4 + 2 * c .before .r2 .given .0 .0 ≤ length (drop (c .before .before .before .before .before .before .before .loop .at) (c .before .before .before .before .before .before .before .before .before .args .bytes .now))) × (c .before .r2 .given .0 .0 ≤ 12) × (c .before .before .before .before .before .before .before .loop .at + (4 + 2 * c .before .r2 .given .0 .0) ≤ length (c .before .before .before .before .before .before .before .before .before .args .bytes .now))
+    → (4 + 2 * c .before .r2 .given .0 .0 ≤ length (drop (c .before .before .before .before .before .before .before .loop .at) (c .before .before .before .before .before .before .before .before .before .args .bytes .now))) × (c .before .r2 .given .0 .0 ≤ 12) × (c .before .before .before .before .before .before .before .loop .at + (4 + 2 * c .before .r2 .given .0 .0) ≤ length (c .before .before .before .before .before .before .before .before .before .args .bytes .now)) × (c .before .before .before .before .before .before .before .loop .chains < 4)
 chain-room c = chain-inside _ _ _ _ _ _ _ (c .before .before .before .before .before .before .before .loop .inv) (c .before .before .before .before .before .before .loop-test .taken) (c .before .r2 .given .0 .0) (sym (c .before .r2 .given .1) ∙ judged (c .before .before .before))
 
 loop-holds : tie.Need-loop-holds Inv-loop μ-loop
@@ -86,10 +81,19 @@ loop-again c = going-task _ _ _ _ _ _ _ (c .before .before .before .before .befo
 enum-known-r-2 : tie.Need-enum-known-r-2 Inv-loop μ-loop
 enum-known-r-2 c = search needs
 
-chain-entries-requires : tie.Need-chain-entries-requires Inv-loop μ-loop
-chain-entries-requires c κs =
+route-of-requires : tie.Need-route-of-requires Inv-loop μ-loop
+route-of-requires c κs =
     let i = chain-room c in
     (i .1, rw (rest-is (c .before .before .before .before .before .before .before .before .before .args .bytes .now) (c .before .before .before .before .before .before .before .loop .at)) (i .0))
+
+mul-routes : tie.Need-mul-routes Inv-loop μ-loop
+mul-routes c = omega (arith, chain-room (c .before) .3)
+
+array-set-from-routes : tie.Need-array-set-from-routes Inv-loop μ-loop
+array-set-from-routes c = chain-room (c .before) .3
+
+add-chains : tie.Need-add-chains Inv-loop μ-loop
+add-chains c = omega (arith, chain-room (c .before) .3)
 
 mul-at : tie.Need-mul-at Inv-loop μ-loop
 mul-at c = omega (arith, chain-room (c .before) .1)
@@ -105,7 +109,7 @@ loop-less-2 c = omega (arith, chain-room (c .before) .2)
 
 loop-again-2 : tie.Need-loop-again-2 Inv-loop μ-loop
 loop-again-2 c =
-    let e = c .chain-entries .ensures ∙ ap (λ (l : List ℕ). padded 12 0 (chainField l (c .before .before .r2 .given .0 .0))) (rest-is (c .before .before .before .before .before .before .before .before .before .before .args .bytes .now) (c .before .before .before .before .before .before .before .before .loop .at)) in
+    let e = c .route-of .ensures ∙ ap (λ (l : List ℕ). routeOf (chainField l (c .before .before .r2 .given .0 .0))) (rest-is (c .before .before .before .before .before .before .before .before .before .before .args .bytes .now) (c .before .before .before .before .before .before .before .before .loop .at)) in
     rw e (going-chain _ _ _ _ _ _ _ (c .before .before .before .before .before .before .before .before .loop .inv) (c .before .before .before .before .before .before .before .loop-test .taken) (c .before .before .r2 .given .0 .0) (sym (c .before .before .r2 .given .1) ∙ judged (c .before .before .before .before)))
 
 enum-told : tie.Need-enum-told Inv-loop μ-loop
@@ -160,7 +164,10 @@ read-file-spec =
     loop-less
     loop-again
     enum-known-r-2
-    chain-entries-requires
+    route-of-requires
+    mul-routes
+    array-set-from-routes
+    add-chains
     mul-at
     add-at-2
     add-at-3

@@ -45,11 +45,11 @@ follows-requires c κs = search needs
 returns-4 : tie.Need-returns-4
 returns-4 c =
     ap Task (c .before .before .before .task-field .ensures)
-    ∙ task-judged (take (c .before .before .before .before .before .before .before .before .before .args .count) (c .before .before .before .before .before .before .before .before .before .args .numbers .now)) (c .before .before .before .before .before .before .before .before .before .args .places) (c .before .before .before .before .before .before .before .before .before .args .rest .now) (sym (c .before .before .before .before .before .before .before .before .before .pre .0) ∙ c .before .before .before .before .before .before .if1 .left) (c .before .before .before .before .before .if2 .left) (omega (arith, length-take-le (c .before .before .before .before .before .before .before .before .before .args .count) (c .before .before .before .before .before .before .before .before .before .args .numbers .now) (c .before .before .before .before .before .before .before .before .before .pre .2), c .before .before .before .before .if3 .left)) true (judged (c .before) ∙ c .if4 .taken)
+    ∙ task-judged (take (c .before .before .before .before .before .before .before .before .before .args .count) (c .before .before .before .before .before .before .before .before .before .args .numbers .now)) (c .before .before .before .before .before .before .before .before .before .args .chains) (c .before .before .before .before .before .before .before .before .before .args .rest .now) (sym (c .before .before .before .before .before .before .before .before .before .pre .0) ∙ c .before .before .before .before .before .before .if1 .left) (c .before .before .before .before .before .if2 .left) (omega (arith, length-take-le (c .before .before .before .before .before .before .before .before .before .args .count) (c .before .before .before .before .before .before .before .before .before .args .numbers .now) (c .before .before .before .before .before .before .before .before .before .pre .2), c .before .before .before .before .if3 .left)) true (judged (c .before) ∙ c .if4 .taken)
 
 returns-5 : tie.Need-returns-5
 returns-5 c =
-    task-judged (take (c .before .before .before .before .before .before .before .before .before .args .count) (c .before .before .before .before .before .before .before .before .before .args .numbers .now)) (c .before .before .before .before .before .before .before .before .before .args .places) (c .before .before .before .before .before .before .before .before .before .args .rest .now) (sym (c .before .before .before .before .before .before .before .before .before .pre .0) ∙ c .before .before .before .before .before .before .if1 .left) (c .before .before .before .before .before .if2 .left) (omega (arith, length-take-le (c .before .before .before .before .before .before .before .before .before .args .count) (c .before .before .before .before .before .before .before .before .before .args .numbers .now) (c .before .before .before .before .before .before .before .before .before .pre .2), c .before .before .before .before .if3 .left)) false (judged (c .before) ∙ c .if4 .left)
+    task-judged (take (c .before .before .before .before .before .before .before .before .before .args .count) (c .before .before .before .before .before .before .before .before .before .args .numbers .now)) (c .before .before .before .before .before .before .before .before .before .args .chains) (c .before .before .before .before .before .before .before .before .before .args .rest .now) (sym (c .before .before .before .before .before .before .before .before .before .pre .0) ∙ c .before .before .before .before .before .before .if1 .left) (c .before .before .before .before .before .if2 .left) (omega (arith, length-take-le (c .before .before .before .before .before .before .before .before .before .args .count) (c .before .before .before .before .before .before .before .before .before .args .numbers .now) (c .before .before .before .before .before .before .before .before .before .pre .2), c .before .before .before .before .if3 .left)) false (judged (c .before) ∙ c .if4 .left)
 
 pub task-record-spec : {M : Type 1} → statement M
 task-record-spec =

@@ -1,13 +1,11 @@
-use lib.ListN.{length-map}
+use native.Mathlib.Omega.{arith}
+use mathlib.Core.Path.{_≡_}
+use lib.ListN.{length, length-map}
+use Rattle.schedule.proofs.ArrayLaws.{each-twelve}
 use Rattle.round_trip.proofs.Trips.{file-inside, file-part, reread-read, reread-refused}
 use borrow.Author.Needs.{needs}
 use Rattle.round_trip.proofs.reread.Statement.{statement}
 use Rattle.round_trip.proofs.reread.Tie as tie
-use Rattle.round_trip.proofs.reread.Reads as reads
-use Rattle.round_trip.proofs.reread.Lts as lts
-use Rattle.file_reader.proofs.read_file.Reads as read-file-reads
-use Rattle.file_reader.proofs.refused.Reads as refused-reads
-use Rattle.file_writer.proofs.write_file.Reads as write-file-reads
 
 write-file-requires : tie.Need-write-file-requires
 write-file-requires c κs = search needs
@@ -35,8 +33,9 @@ same-length c = search needs
 
 returns : tie.Need-returns
 returns c =
+    let n : length (c .before .before .before .before .before .before .before .before .before .before .args .s .routes) ≡ 4 = simp length-map at (c .before .before .before .before .before .before .before .before .before .before .good .0 .1 .1 .1 .0 .1 .0 .1) in
     reread-read _ _ _ _ (c .before .before .before .before .before .before .before .write-file .ensures) (c .before .before .before .w .given .0 .0) (c .before .before .before .w .given .1) _
-    (record { tasks = simp length-map at (c .before .before .before .before .before .before .before .before .before .before .good .0 .1 .1 .0 .1 .0 .1); chain = simp length-map at (c .before .before .before .before .before .before .before .before .before .before .good .0 .1 .1 .1 .0 .1 .0 .1) }) (c .read-file .ensures)
+    (record { tasks = simp length-map at (c .before .before .before .before .before .before .before .before .before .before .good .0 .1 .1 .0 .1 .0 .1); routes = n; places = λ i h. each-twelve (c .before .before .before .before .before .before .before .before .before .before .args .s .routes) _ (c .before .before .before .before .before .before .before .before .before .before .good .0 .1 .1 .1 .0 .1 .1) i (omega (arith, n)) }) (c .read-file .ensures)
 
 same-length-2 : tie.Need-same-length-2
 same-length-2 c = search needs

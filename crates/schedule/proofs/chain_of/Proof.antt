@@ -13,18 +13,18 @@ use Rattle.schedule.proofs.chain_of.Statement.{statement}
 use Rattle.schedule.proofs.chain_of.Tie as tie
 
 abbrev Inv-loop : tie.InvT-loop
-Inv-loop s numbers count places tasks₀ i₀ tasks i =
-    (count ≤ 32) × (places ≤ 12) × (i ≤ places) × (length tasks ≡ 12) × (numbers ≡ map numberOf (s .tasks)) × (count ≡ least (s .count) 32) × (places ≡ least (s .places) 12)
-    × (tasks ≡ padded 12 zeroTask (map (taskNumbered (tasksIn s)) (take i (s .chain))))
+Inv-loop s r numbers count places tasks₀ i₀ tasks i =
+    (count ≤ 32) × (places ≤ 12) × (i ≤ places) × (length tasks ≡ 12) × (numbers ≡ map numberOf (s .tasks)) × (count ≡ least (s .count) 32) × (places ≡ least (r .count) 12)
+    × (tasks ≡ padded 12 zeroTask (map (taskNumbered (tasksIn s)) (take i (r .places))))
 
 abbrev μ-loop : tie.MeasureT-loop
-μ-loop s numbers count places tasks₀ i₀ tasks i = places - i
+μ-loop s r numbers count places tasks₀ i₀ tasks i = places - i
 
 many : (c : tie.Start Inv-loop μ-loop) → length (c .args .t1 .tasks) ≡ 32
 many c = simp length-map at (c .good .0 .1 .1 .0 .1 .0 .1)
 
-twelve : (c : tie.Start Inv-loop μ-loop) → length (c .args .t1 .chain) ≡ 12
-twelve c = simp length-map at (c .good .0 .1 .1 .1 .0 .1 .0 .1)
+twelve : (c : tie.Start Inv-loop μ-loop) → length (c .args .t2 .places) ≡ 12
+twelve c = simp length-map at (c .good .1 .0 .1 .1 .0 .1 .0 .1)
 
 numbers-of-requires : tie.Need-numbers-of-requires Inv-loop μ-loop
 numbers-of-requires c κs = tt
@@ -38,7 +38,8 @@ at-most-requires-2 c κs = tt
 loop-holds : tie.Need-loop-holds Inv-loop μ-loop
 loop-holds c =
     let s = c .before .before .before .before .args .t1 in
-    (least-le (s .count) 32 _ (c .before .at-most .ensures), least-le (s .places) 12 _ (c .at-most2 .ensures), omega arith, refl, c .before .before .numbers-of .ensures, c .before .at-most .ensures, c .at-most2 .ensures, sym (padded-none zeroTask 12))
+    let r = c .before .before .before .before .args .t2 in
+    (least-le (s .count) 32 _ (c .before .at-most .ensures), least-le (r .count) 12 _ (c .at-most2 .ensures), omega arith, refl, c .before .before .numbers-of .ensures, c .before .at-most .ensures, c .at-most2 .ensures, sym (padded-none zeroTask 12))
 
 slice-aggregate-find : tie.Need-slice-aggregate-find Inv-loop μ-loop
 slice-aggregate-find c = search needs
@@ -78,8 +79,9 @@ loop-again c =
     let l = c .before .before .before .before .before .before .before .loop in
     let st = c .before .before .before .before .before .before .before .before .before .before .before .before in
     let s = st .args .t1 in
-    let f = place-found (s .tasks) (s .count) _ (getD (s .chain) (l .i) 0) (c .before .before .before .find .result) (many st) (l .inv .5)
-    (c .before .before .before .find .ensures ∙ ap (λ (x : List ℕ). positionOf (getD (s .chain) (l .i) 0) (take (c .before .before .before .before .before .before .before .before .before .at-most .result) x)) (l .inv .4)) (c .before .before .if1 .taken) in (
+    let r = st .args .t2 in
+    let f = place-found (s .tasks) (s .count) _ (getD (r .places) (l .i) 0) (c .before .before .before .find .result) (many st) (l .inv .5)
+    (c .before .before .before .find .ensures ∙ ap (λ (x : List ℕ). positionOf (getD (r .places) (l .i) 0) (take (c .before .before .before .before .before .before .before .before .before .at-most .result) x)) (l .inv .4)) (c .before .before .if1 .taken) in (
       l .inv .0,
       l .inv .1,
       omega arith,
@@ -88,8 +90,8 @@ loop-again c =
       l .inv .5,
       l .inv .6,
       ap (λ (x : List Task). set x (l .i) (getD (s .tasks) (c .before .before .before .find .result) zeroNumbered .task)) (l .inv .7)
-          ∙ ap (set (padded 12 zeroTask (map (taskNumbered (tasksIn s)) (take (l .i) (s .chain)))) (l .i)) f
-          ∙ store-more (taskNumbered (tasksIn s)) 0 zeroTask 12 (s .chain) (l .i) (omega (arith, twelve st)) (omega arith),
+          ∙ ap (set (padded 12 zeroTask (map (taskNumbered (tasksIn s)) (take (l .i) (r .places)))) (l .i)) f
+          ∙ store-more (taskNumbered (tasksIn s)) 0 zeroTask 12 (r .places) (l .i) (omega (arith, twelve st)) (omega arith),
     )
 
 add-i-2 : tie.Need-add-i-2 Inv-loop μ-loop
@@ -103,8 +105,9 @@ loop-again-2 c =
     let l = c .before .before .before .before .before .loop in
     let st = c .before .before .before .before .before .before .before .before .before .before in
     let s = st .args .t1 in
-    let f = place-lost (s .tasks) (s .count) _ (getD (s .chain) (l .i) 0) (c .before .find .result) (many st) (l .inv .5)
-    (c .before .find .ensures ∙ ap (λ (x : List ℕ). positionOf (getD (s .chain) (l .i) 0) (take (c .before .before .before .before .before .before .before .at-most .result) x)) (l .inv .4)) (c .if1 .left) in (
+    let r = st .args .t2 in
+    let f = place-lost (s .tasks) (s .count) _ (getD (r .places) (l .i) 0) (c .before .find .result) (many st) (l .inv .5)
+    (c .before .find .ensures ∙ ap (λ (x : List ℕ). positionOf (getD (r .places) (l .i) 0) (take (c .before .before .before .before .before .before .before .at-most .result) x)) (l .inv .4)) (c .if1 .left) in (
       l .inv .0,
       l .inv .1,
       omega arith,
@@ -112,7 +115,7 @@ loop-again-2 c =
       l .inv .4,
       l .inv .5,
       l .inv .6,
-      l .inv .7 ∙ leave-more (taskNumbered (tasksIn s)) 0 zeroTask 12 (s .chain) (l .i) (omega (arith, twelve st)) (omega arith) f,
+      l .inv .7 ∙ leave-more (taskNumbered (tasksIn s)) 0 zeroTask 12 (r .places) (l .i) (omega (arith, twelve st)) (omega arith) f,
     )
 
 returns : tie.Need-returns Inv-loop μ-loop
@@ -120,9 +123,10 @@ returns c =
     let l = c .before .loop in
     let st = c .before .before .before .before .before .before in
     let s = st .args .t1 in
-    let i : l .i ≡ least (s .places) 12 = omega (arith, l .inv .6) in
-    let e : take (l .i) (s .chain) ≡ take (s .places) (s .chain) = take-least (s .chain) (s .places) 12 (l .i) (twelve st) i in
-    ap (λ (x : List Task). record { tasks = x; places = s .places }) (l .inv .7 ∙ ap (λ (x : List ℕ). padded 12 zeroTask (map (taskNumbered (tasksIn s)) x)) e)
+    let r = st .args .t2 in
+    let i : l .i ≡ least (r .count) 12 = omega (arith, l .inv .6) in
+    let e : take (l .i) (r .places) ≡ take (r .count) (r .places) = take-least (r .places) (r .count) 12 (l .i) (twelve st) i in
+    ap (λ (x : List Task). record { tasks = x; places = r .count }) (l .inv .7 ∙ ap (λ (x : List ℕ). padded 12 zeroTask (map (taskNumbered (tasksIn s)) x)) e)
 
 pub chain-of-spec : {M : Type 1} → statement M
 chain-of-spec =

@@ -6,13 +6,10 @@ use lib.ListN.{take, drop, getD}
 use Rattle.chain.proofs.Front.{front-cons, front-end}
 use borrow.Author.Needs.{needs}
 use Rattle.schedule.specs.Schedules.{zeroNumbered}
-use Rattle.file_writer.specs.Writing.{firstFault}
-use Rattle.file_writer.proofs.Faults.{fault-past, fault-here, fault-none}
-use Rattle.file_writer.proofs.first_fault.Statement.{statement}
-use Rattle.file_writer.proofs.first_fault.Tie as tie
-use Rattle.file_writer.proofs.first_fault.Reads as reads
-use Rattle.file_writer.proofs.first_fault.Lts as lts
-use Rattle.schedule.proofs.follows.Reads as follows-reads
+use Rattle.schedule_checks.specs.Checks.{firstFault}
+use Rattle.schedule_checks.proofs.Faults.{fault-past, fault-here, fault-none}
+use Rattle.schedule_checks.proofs.first_fault.Statement.{statement}
+use Rattle.schedule_checks.proofs.first_fault.Tie as tie
 
 abbrev Inv-loop : tie.InvT-loop
 Inv-loop count tasks before₀ i₀ before i = (i ≤ count) × (firstFault 1 0 (take count tasks) ≡ firstFault (i + 1) before (drop i (take count tasks)))

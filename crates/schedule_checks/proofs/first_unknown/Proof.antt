@@ -5,13 +5,10 @@ use mathlib.Core.List.{_∷_}
 use lib.ListN.{take, drop, getD}
 use Rattle.chain.proofs.Front.{front-cons, front-end}
 use borrow.Author.Needs.{needs}
-use Rattle.file_writer.specs.Writing.{firstUnknown}
-use Rattle.file_writer.proofs.Faults.{unknown-past, unknown-here, unknown-none}
-use Rattle.file_writer.proofs.first_unknown.Statement.{statement}
-use Rattle.file_writer.proofs.first_unknown.Tie as tie
-use Rattle.file_writer.proofs.first_unknown.Reads as reads
-use Rattle.file_writer.proofs.first_unknown.Lts as lts
-use Rattle.schedule.proofs.find.Reads as find-reads
+use Rattle.schedule_checks.specs.Checks.{firstUnknown}
+use Rattle.schedule_checks.proofs.Faults.{unknown-past, unknown-here, unknown-none}
+use Rattle.schedule_checks.proofs.first_unknown.Statement.{statement}
+use Rattle.schedule_checks.proofs.first_unknown.Tie as tie
 
 abbrev Inv-loop : tie.InvT-loop
 Inv-loop places numbers count chain i₀ i = (i ≤ places) × (firstUnknown 1 (take count numbers) (take places chain) ≡ firstUnknown (i + 1) (take count numbers) (drop i (take places chain)))

@@ -1,0 +1,2 @@
+pub mod FlatSchedule
+pub mod GivenBack
