@@ -1,29 +1,29 @@
--- What mo_chain_of_schedule gives where it finds no chain is refused by every call on chains that takes flat, 36 and the answer:
--- with 8 where the number of places is wrong or the list does not hold them (`places-refused`), with 5 where a place's number is that of no counted task (`unknown-refused`)
--- or the list does not hold the counted tasks (`tasks-refused`). What a call refuses is said of its own contract (`RefusedByAll`).
+-- mo_chain_of_schedule and the calls on chains that take flat, 36 and chain_places: from code 0 they get the chain with that number (`chosen-for-c`), which only 7 can refuse (`chosen-checked`);
+-- from any other code every one of them refuses with 8 (`not-chosen`), also where a caller does not look at the code. Of a file that is read, each number up to the count of chains is chosen (`read-then-chosen`).
 use Prim.Native.Nat.{ℕ, _≤_, _<_}
 use native.Mathlib.Omega.{arith}
-use native.Mathlib.Decide.{decLt}
 use mathlib.Core.Path.{_≡_, refl, sym, ap, _∙_}
-use mathlib.Core.Bool.{false}
 use mathlib.Core.List.{List, [], _∷_, map}
-use lib.ListN.{length, take, getD, replicate, List·getD-map}
-use lib.Seq.{getD-take}
+use lib.ListN.{length, getD, replicate}
 use Rattle.refusal.specs.declared.Refusal.{Refusal}
-use Rattle.refusal.specs.Refusals.{refusal, codeOf}
-use Rattle.task.specs.declared.Task.{Task}
+use Rattle.refusal.specs.Refusals.{refusal, none, codeOf}
 use Rattle.chain.specs.declared.Chain.{Chain}
 use Rattle.chain.specs.declared.Verdict.{Verdict}
 use Rattle.chain.specs.declared.Verdict.the-variants.{Refused}
-use Rattle.chain.specs.Chains.{tasksOf, at, zeroTask}
-use Rattle.chain.specs.Entries.{entries-length, entries-at}
-use Rattle.chain.specs.Checks.{firstFault, verdictOf}
+use Rattle.chain.specs.Chains.{tasksOf}
+use Rattle.chain.specs.Checks.{hyperVerdict, verdictOf}
 use Rattle.chain.specs.Flat.{flatChain}
 use Rattle.chain.specs.StandsFor.{eight}
-use Rattle.chain.proofs.CheckLaws.{sound, check-fault}
+use Rattle.little_endian.specs.LittleEndian.{Bytes}
 use Rattle.schedule.specs.declared.Schedule.{Schedule}
-use Rattle.schedule.specs.Schedules.{numberOf, tasksIn, placesIn, known, taskNumbered, chainOf}
-use Rattle.schedule.specs.ChainTasks.{unknown-zero, chain-tasks, chain-length, chain-twelve}
+use Rattle.schedule.specs.Schedules.{chainAt}
+use Rattle.schedule_checks.specs.declared.Chosen.{Chosen}
+use Rattle.schedule_checks.specs.Checks.{choiceOf, chosenOf}
+use Rattle.schedule_checks.specs.SoundSchedule.{SoundSchedule}
+use Rattle.schedule_checks.specs.SoundChain.{sound-placed, sound-chain, chain-at-twelve}
+use Rattle.schedule_checks.specs.ChosenChain.{chosen-chain, none-chosen, choice-sound, choice-there}
+use Rattle.file_reader.specs.Reading.{readFile}
+use Rattle.round_trip.specs.RoundTrips.{read-arrays, read-sound, read-places}
 use Rattle.timing.specs.declared.WarmUp.{WarmUp}
 use Rattle.timing.specs.WarmUp.{warmTick}
 use Rattle.timing.specs.Delay.{delayAt, firstAged, ageAt}
@@ -34,11 +34,12 @@ use Rattle.windows.specs.Windows as windows-of
 use Rattle.capi_timing.specs.Calls.{verdictCode, verdictHyper, spanCode, spanTicks, jobNumber, GivesCheck, GivesWarmUp, GivesDelay, GivesAge}
 use Rattle.capi_maker.specs.Calls.{madeCode, madeNumbers, GivesTable}
 use Rattle.capi_windows.specs.Calls.{windowNumbers, GivesWindows}
-use Rattle.capi_file.specs.Calls.{GivesChain}
+use Rattle.capi_file.specs.Calls.{GivesSchedule, GivesChain}
+use Rattle.capi_file.specs.RoundTrips.{given-schedule}
 use Rattle.capi_chain.specs.FlatChain.{placesOf, chainFrom}
 use Rattle.capi_chain.specs.Front.{chain-given-back, chain-count, places-given}
-use Rattle.capi_file.specs.FlatSchedule.{placeAt, tasksFrom, countFrom, placesFrom, scheduleFrom}
-use Rattle.capi_file.specs.GivenBack.{places-are, places-fit}
+use Rattle.capi_schedule.specs.FlatSchedule.{scheduleFrom}
+use Rattle.capi_schedule.specs.GivenBack.{from-arrays}
 
 -- ---- a refused chain is refused by every call on chains, with the same refusal, zeros in every number lent, and lists as they were
 
@@ -78,48 +79,71 @@ refused-by-all c r e = record {
 -- ---- where a schedule has no chain
 
 -- What mo_chain_of_schedule gives, by its contract.
-module _ (tasks : List ℕ) (count : ℕ) (chain : List ℕ) (places answer : ℕ) (flat : List ℕ) (gives : GivesChain (scheduleFrom tasks count chain places) answer flat) where
+-- no places are refused
+no-places : (flat : List ℕ) (held : ℕ) → held ≡ 0 → 1 ≤ chainFrom flat held .places → ⊥
+no-places flat held e g =
+    let n = chain-count flat held in
+    let m : placesOf (length flat) held ≡ held = places-given (length flat) held (omega arith) in
+    omega arith
+
+-- ---- what mo_chain_of_schedule gives
+
+module _ (tasks : List ℕ) (count : ℕ) (chains places : List ℕ) (total number code : ℕ) (flat : List ℕ) (held : ℕ) (gives : GivesChain (scheduleFrom tasks count chains places total) number code flat held) where
   abbrev s : Schedule
-  s = scheduleFrom tasks count chain places
+  s = scheduleFrom tasks count chains places total
 
   -- the chain that a call on chains makes of it
-  same : chainFrom flat answer ≡ chainFrom (flatChain (chainOf s .tasks)) (chainOf s .places)
-  same = ap (chainFrom flat) (gives .0) ∙ ap (λ (l : List ℕ). chainFrom l (chainOf s .places)) (gives .1)
+  same : chainFrom flat held ≡ chainFrom (flatChain (chosenOf s number .chain .tasks)) (chosenOf s number .chain .places)
+  same = ap (chainFrom flat) (gives .gives-places) ∙ ap (λ (l : List ℕ). chainFrom l (chosenOf s number .chain .places)) (gives .gives-flat)
 
-  -- Places that are not 1 to 12, or more than the list holds.
-  pub places-refused : (1 ≤ places → places ≤ length chain → 12 < places) → RefusedByAll (chainFrom flat answer) (refusal 8 0)
-  places-refused wrong = refused-by-all (chainFrom flat answer) (refusal 8 0) (eight (chainFrom flat answer .places) (tasksOf (chainFrom flat answer)) far)
-    where
-      far : 1 ≤ chainFrom flat answer .places → 12 < chainFrom flat answer .places
-      far g =
-          let n = chain-count flat answer in
-          let e : placesOf (length flat) answer ≡ answer = places-given (length flat) answer (omega arith) in
-          let m : placesFrom (length chain) places ≡ places = places-are (length chain) places (omega (arith, gives .0)) in
-          omega (arith, gives .0, wrong (omega (arith, gives .0)) (places-fit (length chain) places m))
+  module _ (fine : code ≡ 0) where
+    zero-number : choiceOf s number .number ≡ 0
+    zero-number = omega (arith, gives .answers)
 
-  -- A place, counted from 0, whose number no counted task has.
-  pub unknown-refused : (i : ℕ) → i < s .places → s .places ≤ 12 → known (map numberOf (tasksIn s)) (placeAt chain i) ≡ false
-      → (1 ≤ firstFault 1 (tasksOf (chainOf s))) × RefusedByAll (chainFrom flat answer) (refusal 5 (firstFault 1 (tasksOf (chainOf s))))
-  unknown-refused i h few unknown =
-      let long : length (s .chain) ≡ 12 = entries-length (placeAt chain) 0 12 in
-      let n : length (tasksOf (chainOf s)) ≡ s .places = chain-length s long few in
-      let number : ℕ = placeAt chain i in
-      let zeros = unknown-zero (tasksIn s) number unknown in
-      let there : getD (placesIn s) i number ≡ number = getD-take (s .places) (s .chain) i number h ∙ entries-at (placeAt chain) number 12 i (omega arith) in
-      let here : at (tasksOf (chainOf s)) i ≡ zeroTask =
-      ap (λ (l : List Task). at l i) (chain-tasks s long few) ∙ ap (getD (map (taskNumbered (tasksIn s)) (placesIn s)) i) (sym zeros)
-      ∙ List·getD-map (taskNumbered (tasksIn s)) (placesIn s) i number ∙ ap (taskNumbered (tasksIn s)) there ∙ zeros in
-      let fault : 1 ≤ firstFault 1 (tasksOf (chainOf s)) = elim (decLt (firstFault 1 (tasksOf (chainOf s))) 1) [
-        | no g ↦ omega arith
-        | yes g ↦
-            let w = sound (tasksOf (chainOf s)) (omega arith) (omega arith) (omega arith) .each i (omega arith) .period-pos in
-            absurd (omega (arith, ap (λ (t : Task). t .period) here))
-      ] in
-      let e = check-fault (s .places) (tasksOf (chainOf s)) (omega arith) few (firstFault 1 (tasksOf (chainOf s))) refl (λ z. omega arith) in
-      (fault, refused-by-all (chainFrom flat answer) _ (ap verdictOf (same ∙ chain-given-back (chainOf s) (chain-twelve s long few) few) ∙ sym e))
+    in-schedule : (SoundSchedule s) × (1 ≤ number) × (number ≤ s .chains)
+    in-schedule = choice-sound s number zero-number
 
-  -- A list that does not hold the counted tasks counts as one of none.
-  pub tasks-refused : countFrom (length tasks) count ≡ 0 → 1 ≤ s .places → s .places ≤ 12
-      → (1 ≤ firstFault 1 (tasksOf (chainOf s))) × RefusedByAll (chainFrom flat answer) (refusal 5 (firstFault 1 (tasksOf (chainOf s))))
-  unfolding known
-  tasks-refused none some few = unknown-refused 0 some few (ap (λ (n : ℕ). known (map numberOf (take n (tasksFrom tasks))) (placeAt chain 0)) none)
+    -- Code 0: the calls on chains get the chain with that number,
+    pub chosen-for-c : chainFrom flat held ≡ chainAt s number
+    chosen-for-c =
+        let a = from-arrays tasks count chains places total in
+        let k = in-schedule in
+        let p = sound-placed s a (k .0) number (k .1) (k .2) in
+        same ∙ ap (λ (c : Chain). chainFrom (flatChain (c .tasks)) (c .places)) (chosen-chain s number zero-number)
+        ∙ chain-given-back (chainAt s number) (chain-at-twelve s a number (k .1) (omega (arith, k .2, k .0 .few-chains))) (p .1)
+
+    -- and of its checks only 7 can refuse it.
+    pub chosen-checked : verdictOf (chainFrom flat held) ≡ hyperVerdict (tasksOf (chainFrom flat held))
+    chosen-checked =
+        let k = in-schedule in
+        rw chosen-for-c (sound-chain s (from-arrays tasks count chains places total) (k .0) number (k .1) (k .2))
+
+  -- number 0 has place 0
+  none-code : choiceOf s number .number ≡ 0 → codeOf (choiceOf s number) ≡ 0
+  none-code z = let k = choice-sound s number z in ap codeOf (choice-there s number (k .0) (k .1) (k .2))
+
+  -- Any other code: every call on chains refuses with 8.
+  pub not-chosen : (code ≡ 0 → ⊥) → RefusedByAll (chainFrom flat held) (refusal 8 0)
+  not-chosen wrong =
+      let n : choiceOf s number .number ≡ 0 → ⊥ = λ z. wrong (gives .answers ∙ none-code z) in
+      let e : held ≡ 0 = gives .gives-places ∙ ap (λ (c : Chosen). c .chain .places) (none-chosen s number n) in
+      refused-by-all (chainFrom flat held) (refusal 8 0) (eight (chainFrom flat held .places) (tasksOf (chainFrom flat held)) (λ g. absurd (no-places flat held e g)))
+
+-- Of a file that is read, with the lists and counts that were got: each number from 1 to the count of chains is chosen, and gives that chain of the file's schedule.
+module _ (b : List ℕ) (is : Bytes b) (code : ℕ) (ts ch pl : List ℕ) (n m : ℕ) (reads : GivesSchedule (readFile b) code ts ch pl (n ∷ m ∷ [])) (fine : code ≡ 0) where
+  number-zero : readFile b .refusal .number ≡ 0
+  number-zero = omega (arith, reads .answers)
+
+  sound-read : SoundSchedule (readFile b .schedule)
+  sound-read = read-sound b is number-zero
+
+  got : scheduleFrom ts n ch pl m ≡ readFile b .schedule
+  got = given-schedule (readFile b) code ts ch pl (n ∷ m ∷ []) reads (read-arrays b is number-zero) (sound-read .few) (sound-read .few-chains) (read-places b is number-zero)
+
+  pub read-then-chosen : (number : ℕ) → 1 ≤ number → number ≤ m → (code′ : ℕ) (flat : List ℕ) (held : ℕ) → GivesChain (scheduleFrom ts n ch pl m) number code′ flat held
+      → (code′ ≡ 0) × (chainFrom flat held ≡ chainAt (readFile b .schedule) number)
+  read-then-chosen number low high code′ flat held gives =
+      let c : m ≡ readFile b .schedule .chains = ap (λ (l : List ℕ). getD l 1 0) (reads .gives-counts) in
+      let z : choiceOf (readFile b .schedule) number ≡ none = choice-there (readFile b .schedule) number sound-read low (omega arith) in
+      let k : code′ ≡ 0 = gives .answers ∙ ap (λ (x : Schedule). codeOf (choiceOf x number)) got ∙ ap codeOf z in
+      (k, chosen-for-c ts n ch pl m number code′ flat held gives k ∙ ap (λ (x : Schedule). chainAt x number) got)

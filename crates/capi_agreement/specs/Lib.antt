@@ -1,3 +1,3 @@
 pub mod Codes
 pub mod TablesAndWalks
-pub mod NoChain
+pub mod ChosenChain

@@ -14,21 +14,28 @@ use Rattle.file_writer.specs.declared.Written.{Written}
 use Rattle.file_writer.specs.declared.Written.the-variants.{Bytes, Refused}
 use Rattle.file_writer.specs.Writing.{Writes}
 use Rattle.file_writer.specs.Positions.{written-small}
-use Rattle.capi_file.specs.FlatSchedule.{flatTasks}
-use Rattle.capi_file.specs.Calls.{GivesSchedule, GivesFile, writtenCode, writtenLength}
+use Rattle.chain.specs.Flat.{flatChain}
+use Rattle.schedule_checks.specs.declared.Chosen.{Chosen}
+use Rattle.schedule_checks.specs.Checks.{choiceOf, chosenOf}
+use Rattle.schedule_checks.specs.Positions.{choice-small}
+use Rattle.schedule_checks.specs.ChosenChain.{chosen-refusal}
+use Rattle.capi_schedule.specs.FlatSchedule.{flatTasks, flatRoutes, routeCounts}
+use Rattle.capi_file.specs.Calls.{GivesSchedule, GivesFile, GivesChain, writtenCode, writtenLength}
 
 -- ---- reading
 
 pub read-fits : (f : FileRead) (l : List ℕ) → f ≡ readFile l → (f .refusal .number < 256) × (f .refusal .place ≤ 1000000000)
 read-fits f l e = rw e (let r = read-small l in (omega arith, omega arith))
 
-pub read-given : (f g : FileRead) (code : ℕ) (tasks : List ℕ) → f ≡ g → code ≡ codeOf (f .refusal) → tasks ≡ flatTasks (f .schedule .tasks)
-    → GivesSchedule g code tasks (f .schedule .chain) (f .schedule .count ∷ f .schedule .places ∷ [])
-read-given f g code tasks e c t = record {
+pub read-given : (f g : FileRead) (code : ℕ) (tasks chains places : List ℕ) → f ≡ g → code ≡ codeOf (f .refusal) → tasks ≡ flatTasks (f .schedule .tasks)
+    → chains ≡ flatRoutes (f .schedule .routes) → places ≡ routeCounts (f .schedule .routes)
+    → GivesSchedule g code tasks chains places (f .schedule .count ∷ f .schedule .chains ∷ [])
+read-given f g code tasks chains places e c t u v = record {
   answers = c ∙ ap (λ (x : FileRead). codeOf (x .refusal)) e;
   gives-tasks = t ∙ ap (λ (x : FileRead). flatTasks (x .schedule .tasks)) e;
-  gives-chain = ap (λ (x : FileRead). x .schedule .chain) e;
-  gives-counts = ap (λ (x : FileRead). x .schedule .count ∷ x .schedule .places ∷ []) e;
+  gives-chains = u ∙ ap (λ (x : FileRead). flatRoutes (x .schedule .routes)) e;
+  gives-places = v ∙ ap (λ (x : FileRead). routeCounts (x .schedule .routes)) e;
+  gives-counts = ap (λ (x : FileRead). x .schedule .count ∷ x .schedule .chains ∷ []) e;
 }
 
 -- ---- writing
@@ -53,3 +60,21 @@ module _ (s t : Schedule) (old new : List ℕ) (w : Written) (same : s ≡ t) (d
 
   pub written-fits : (r : Refusal) → w ≡ Refused r → (r .number < 256) × (r .place ≤ 1000000000)
   written-fits r e = let h = rw (sym (again .answers) ∙ e) at (written-small t (length old)) in (omega arith, omega arith)
+
+-- ---- choosing
+
+module _ (s t : Schedule) (n : ℕ) (c : Chosen) (same : s ≡ t) (is : c ≡ chosenOf s n) where
+  chosen : c ≡ chosenOf t n
+  chosen = is ∙ ap (λ (x : Schedule). chosenOf x n) same
+
+  pub chosen-fits : (c .refusal .number < 256) × (c .refusal .place ≤ 1000000000)
+  chosen-fits =
+      let e : c .refusal ≡ choiceOf t n = ap (λ (x : Chosen). x .refusal) chosen ∙ chosen-refusal t n in
+      rw e (let r = choice-small t n in (omega arith, omega arith))
+
+  pub chain-given : (code : ℕ) (flat : List ℕ) → code ≡ codeOf (c .refusal) → flat ≡ flatChain (c .chain .tasks) → GivesChain t n code flat (c .chain .places)
+  chain-given code flat e f = record {
+    answers = e ∙ ap codeOf (ap (λ (x : Chosen). x .refusal) chosen ∙ chosen-refusal t n);
+    gives-flat = f ∙ ap (λ (x : Chosen). flatChain (x .chain .tasks)) chosen;
+    gives-places = ap (λ (x : Chosen). x .chain .places) chosen;
+  }

@@ -1,4 +1,4 @@
--- How reading and writing a file give their answers to C, as plain numbers.
+-- How reading and writing a file, and choosing a chain, give their answers to C, as plain numbers.
 use Prim.Native.Nat.{ℕ}
 use mathlib.Core.Path.{_≡_}
 use mathlib.Core.List.{List, [], _∷_}
@@ -6,20 +6,21 @@ use lib.ListN.{length}
 use Rattle.refusal.specs.Refusals.{codeOf}
 use Rattle.chain.specs.Flat.{flatChain}
 use Rattle.schedule.specs.declared.Schedule.{Schedule}
-use Rattle.schedule.specs.Schedules.{chainOf}
+use Rattle.schedule_checks.specs.Checks.{choiceOf, chosenOf}
 use Rattle.file_reader.specs.declared.FileRead.{FileRead}
 use Rattle.file_writer.specs.declared.Written.{Written}
 use Rattle.file_writer.specs.declared.Written.the-variants.{Bytes, Refused}
 use Rattle.file_writer.specs.FileBytes.{fileBytes}
 use Rattle.file_writer.specs.Writing.{leftBytes, writtenOf}
-use Rattle.capi_file.specs.FlatSchedule.{flatTasks}
+use Rattle.capi_schedule.specs.FlatSchedule.{flatTasks, flatRoutes, routeCounts}
 
 -- Reading: the code, and the schedule as lists and counts; zeros under a refusal.
-pub record GivesSchedule (f : FileRead) (code : ℕ) (tasks chain counts : List ℕ) : Type 0 where
+pub record GivesSchedule (f : FileRead) (code : ℕ) (tasks chains places counts : List ℕ) : Type 0 where
   pub answers : code ≡ codeOf (f .refusal)
   pub gives-tasks : tasks ≡ flatTasks (f .schedule .tasks)
-  pub gives-chain : chain ≡ f .schedule .chain
-  pub gives-counts : counts ≡ f .schedule .count ∷ f .schedule .places ∷ []
+  pub gives-chains : chains ≡ flatRoutes (f .schedule .routes)
+  pub gives-places : places ≡ routeCounts (f .schedule .routes)
+  pub gives-counts : counts ≡ f .schedule .count ∷ f .schedule .chains ∷ []
 
 abbrev pub writtenCode : Written → ℕ
 writtenCode (Bytes n) = 0
@@ -35,6 +36,8 @@ pub record GivesFile (s : Schedule) (old : List ℕ) (code : ℕ) (new : List �
   pub leaves : new ≡ leftBytes (writtenOf s (length old)) (fileBytes s) old
   pub gives-length : long ≡ writtenLength (writtenOf s (length old))
 
--- The chain of a schedule: its number of places, and its tasks as a flat list.
-abbrev pub GivesChain : Schedule → ℕ → List ℕ → Type 0
-GivesChain s answer flat = (answer ≡ chainOf s .places) × (flat ≡ flatChain (chainOf s .tasks))
+-- The chain with a number: the code, its tasks as a flat list, and its number of places; zeros under a refusal.
+pub record GivesChain (s : Schedule) (number code : ℕ) (flat : List ℕ) (places : ℕ) : Type 0 where
+  pub answers : code ≡ codeOf (choiceOf s number)
+  pub gives-flat : flat ≡ flatChain (chosenOf s number .chain .tasks)
+  pub gives-places : places ≡ chosenOf s number .chain .places

@@ -1,3 +1,2 @@
-pub mod FlatSchedule
 pub mod Calls
-pub mod GivenBack
+pub mod RoundTrips

@@ -31,13 +31,13 @@ use Rattle.file_writer.specs.Writing.{lengthVerdict, leftBytes, writtenOf}
 use Rattle.file_writer.specs.Accepted.{Accepted, accepted}
 use Rattle.round_trip.specs.RoundTrips.{cleared, read-arrays, read-sound, read-places, write-after-read, read-after-write, cleared-parts, cleared-arrays, cleared-places}
 use Rattle.capi_schedule.specs.FlatSchedule.{numberedAt, tasksFrom, countFrom, heldFrom, placeFrom, routeFrom, routesFrom, scheduleFrom, numberedFields, flatTasks, flatRoutes, routeCounts}
-use Rattle.capi_schedule.specs.GivenBack.{schedule-given-back, front-tasks, same-tasks, count-fits, count-is, held-is, flat-at, count-at, SameChains, same-counts, same-places}
+use Rattle.capi_schedule.specs.GivenBack.{from-arrays, schedule-given-back, front-tasks, same-tasks, count-fits, count-is, held-is, flat-at, count-at, SameChains, same-counts, same-places}
 use Rattle.capi_file.specs.Calls.{writtenCode, writtenLength, GivesSchedule, GivesFile}
 
 -- ---- what C gives back
 
 -- the schedule of what C got of a schedule
-given-schedule : (f : FileRead) (code : ℕ) (ts ch pl counts : List ℕ) → GivesSchedule f code ts ch pl counts → Arrays (f .schedule) → f .schedule .count ≤ 32 → f .schedule .chains ≤ 4
+pub given-schedule : (f : FileRead) (code : ℕ) (ts ch pl counts : List ℕ) → GivesSchedule f code ts ch pl counts → Arrays (f .schedule) → f .schedule .count ≤ 32 → f .schedule .chains ≤ 4
     → ((c : ℕ) → c < 4 → getD (f .schedule .routes) c noRoute .count ≤ 12)
     → scheduleFrom ts (getD counts 0 0) ch pl (getD counts 1 0) ≡ f .schedule
 given-schedule f code ts ch pl counts g a few few-chains few-places =
@@ -131,12 +131,8 @@ module _ (ts : List ℕ) (n : ℕ) (ch pl : List ℕ) (m : ℕ) (old : List ℕ)
   abbrev s : Schedule
   s = scheduleFrom ts n ch pl m
 
-  pub from-arrays : Arrays s
-  from-arrays = record {
-    tasks = entries-length (numberedAt ts) 0 32;
-    routes = entries-length (routeFrom ch pl) 0 4;
-    places = λ i h. ap (λ (r : Route). length (r .places)) (entries-at (routeFrom ch pl) noRoute 4 i h) ∙ entries-length (placeFrom ch (12 * i)) 0 12;
-  }
+  arrays : Arrays s
+  arrays = from-arrays ts n ch pl m
 
   is-written : writtenOf s (length old) ≡ written.Bytes long
   is-written = written-zero s (length old) (sym (w .answers) ∙ fine) ∙ ap written.Bytes (sym (w .gives-length))
@@ -153,10 +149,10 @@ module _ (ts : List ℕ) (n : ℕ) (ch pl : List ℕ) (m : ℕ) (old : List ℕ)
       ∙ take-at (fileBytes s) (drop (length (fileBytes s)) old) long (sym (facts .long))
 
   is-read : readFile (take long new) ≡ record { refusal = none; schedule = cleared s }
-  is-read = ap readFile file-there ∙ read-after-write s (length old) long from-arrays is-written
+  is-read = ap readFile file-there ∙ read-after-write s (length old) long arrays is-written
 
   parts : (cleared s .count ≡ s .count) × (cleared s .chains ≡ s .chains)
-  parts = let k = cleared-parts s (length old) long from-arrays is-written in (k .2, k .3)
+  parts = let k = cleared-parts s (length old) long arrays is-written in (k .2, k .3)
 
   counts : s .count ≡ n
   counts = count-is (length ts) n (sound-s .some)
@@ -179,13 +175,13 @@ module _ (ts : List ℕ) (n : ℕ) (ch pl : List ℕ) (m : ℕ) (old : List ℕ)
     route-there = entries-at (routeFrom ch pl) noRoute 4 c in-four
 
     placed : (1 ≤ routeFrom ch pl c .count) × (routeFrom ch pl c .count ≤ 12)
-    placed = rw route-there at (placed-front (s .routes) (s .chains) (omega (arith, from-arrays .routes, sound-s .few-chains)) (sound-s .placed) c (omega (arith, chains-are)))
+    placed = rw route-there at (placed-front (s .routes) (s .chains) (omega (arith, arrays .routes, sound-s .few-chains)) (sound-s .placed) c (omega (arith, chains-are)))
 
     places-are : routeFrom ch pl c .count ≡ getD pl c 0
     places-are = held-is (length ch - 12 * c) (getD pl c 0) (placed .0)
 
     route-cleared : getD (cleared s .routes) c noRoute ≡ routeOf (placesOf (routeFrom ch pl c))
-    route-cleared = cleared-places s (length old) long from-arrays is-written c (omega (arith, chains-are)) ∙ ap (λ (r : Route). routeOf (placesOf r)) route-there
+    route-cleared = cleared-places s (length old) long arrays is-written c (omega (arith, chains-are)) ∙ ap (λ (r : Route). routeOf (placesOf r)) route-there
 
     count-back : getD (routeCounts (cleared s .routes)) c 0 ≡ getD pl c 0
     count-back =
@@ -206,7 +202,7 @@ module _ (ts : List ℕ) (n : ℕ) (ch pl : List ℕ) (m : ℕ) (old : List ℕ)
       let d : cleared s .count ≡ n = parts .0 ∙ counts in
       let q : cleared s .chains ≡ m = parts .1 ∙ chains-are in
       let k : counts′ ≡ n ∷ m ∷ [] = v .gives-counts ∙ ap (λ (x : ℕ). x ∷ cleared s .chains ∷ []) d ∙ ap (λ (x : ℕ). n ∷ x ∷ []) q in
-      let a = cleared-arrays s (length old) long from-arrays is-written in
+      let a = cleared-arrays s (length old) long arrays is-written in
       let b = given-schedule (record { refusal = none; schedule = cleared s }) code′ ts′ ch′ pl′ counts′ v (a .0) (omega (arith, parts .0, sound-s .few)) (omega (arith, parts .1, sound-s .few-chains)) (a .1) in
       record {
         accepted = v .answers;

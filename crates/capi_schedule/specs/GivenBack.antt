@@ -18,6 +18,14 @@ use Rattle.schedule.specs.Schedules.{placesOf, countOf, noRoute, zeroNumbered}
 use Rattle.schedule.specs.Arrays.{Arrays}
 use Rattle.capi_schedule.specs.FlatSchedule.{numberedAt, tasksFrom, countFrom, heldFrom, placeFrom, placesFrom, routeFrom, routesFrom, scheduleFrom, numberedFields, flatTasks, placeIn, flatRoutes, countIn, routeCounts}
 
+-- The arrays of a schedule from lists have their lengths.
+pub from-arrays : (ts : List ℕ) (n : ℕ) (ch pl : List ℕ) (m : ℕ) → Arrays (scheduleFrom ts n ch pl m)
+from-arrays ts n ch pl m = record {
+  tasks = entries-length (numberedAt ts) 0 32;
+  routes = entries-length (routeFrom ch pl) 0 4;
+  places = λ i h. ap (λ (r : Route). length (r .places)) (entries-at (routeFrom ch pl) noRoute 4 i h) ∙ entries-length (placeFrom ch (12 * i)) 0 12;
+}
+
 -- ---- tasks
 
 -- four numbers of the list are a task

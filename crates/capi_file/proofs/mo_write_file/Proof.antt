@@ -2,11 +2,15 @@ use Rattle.capi_file.proofs.Gives.{written-fits, written-bytes, written
 use borrow.Author.Needs.{needs}
 use Rattle.capi_file.proofs.mo_write_file.Statement.{statement}
 use Rattle.capi_file.proofs.mo_write_file.Tie as tie
-use Rattle.capi_file.proofs.mo_write_file.Reads as reads
-use Rattle.capi_file.proofs.mo_write_file.Lts as lts
-use Rattle.capi_file.proofs.schedule_from.Reads as schedule-from-reads
-use Rattle.file_writer.proofs.write_file.Reads as write-file-reads
-use Rattle.refusal.proofs.Refusal.code.Reads as code-reads
+
+code-requires : tie.Need-code-requires
+code-requires c κs = written-fits (c .before .before .before .before .before .before .before .schedule-from .result) _ _ _ _ (c .before .before .before .before .before .before .before .schedule-from .ensures) (c .before .before .before .before .before .write-file .ensures) _ (c .before .w2 .given .1)
+
+returns : tie.Need-returns
+returns c = written-bytes (c .before .before .before .before .before .before .before .schedule-from .result) _ _ _ _ (c .before .before .before .before .before .before .before .schedule-from .ensures) (c .before .before .before .before .before .write-file .ensures) _ (c .before .w .given .1)
+
+returns-2 : tie.Need-returns-2
+returns-2 c = written-refused (c .before .before .before .before .before .before .before .before .schedule-from .result) _ _ _ _ (c .before .before .before .before .before .before .before .before .schedule-from .ensures) (c .before .before .before .before .before .before .write-file .ensures) _ _ (c .before .before .w2 .given .1) (c .code .ensures)
 
 schedule-from-requires : tie.Need-schedule-from-requires
 schedule-from-requires c κs = search needs
@@ -20,20 +24,11 @@ enum-known-w c = search needs
 enum-known-w-2 : tie.Need-enum-known-w-2
 enum-known-w-2 c = search needs
 
-code-requires : tie.Need-code-requires
-code-requires c κs = written-fits (c .before .before .before .before .before .before .before .schedule-from .result) _ _ _ _ (c .before .before .before .before .before .before .before .schedule-from .ensures) (c .before .before .before .before .before .write-file .ensures) _ (c .before .w2 .given .1)
-
 same-length : tie.Need-same-length
 same-length c = search needs
 
-returns : tie.Need-returns
-returns c = written-bytes (c .before .before .before .before .before .before .before .schedule-from .result) _ _ _ _ (c .before .before .before .before .before .before .before .schedule-from .ensures) (c .before .before .before .before .before .write-file .ensures) _ (c .before .w .given .1)
-
 same-length-2 : tie.Need-same-length-2
 same-length-2 c = search needs
-
-returns-2 : tie.Need-returns-2
-returns-2 c = written-refused (c .before .before .before .before .before .before .before .before .schedule-from .result) _ _ _ _ (c .before .before .before .before .before .before .before .before .schedule-from .ensures) (c .before .before .before .before .before .before .write-file .ensures) _ _ (c .before .before .w2 .given .1) (c .code .ensures)
 
 pub mo-write-file-spec : {M : Type 1} → statement M
 mo-write-file-spec =
