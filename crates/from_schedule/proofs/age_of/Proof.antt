@@ -1,0 +1,20 @@
+use mathlib.Core.Path.{_∙_}
+use Rattle.schedule_checks.specs.ChosenChain.{choice-refused, choice-made}
+use borrow.Author.Needs.{needs}
+use Rattle.from_schedule.proofs.age_of.Statement.{statement}
+use Rattle.from_schedule.proofs.age_of.Tie as tie
+
+chain-number-requires : tie.Need-chain-number-requires
+chain-number-requires c κs = search needs
+
+returns : tie.Need-returns
+returns c = choice-refused _ _ _ _ _ (c .before .before .before .chain-number .ensures) (c .if1 .taken)
+
+age-requires : tie.Need-age-requires
+age-requires c κs = search needs
+
+returns-2 : tie.Need-returns-2
+returns-2 c = c .age .ensures ∙ choice-made _ _ _ _ _ (c .before .before .before .before .chain-number .ensures) (c .before .if1 .left)
+
+pub age-of-spec : {M : Type 1} → statement M
+age-of-spec = tie.close (tie.spec chain-number-requires returns age-requires returns-2)
