@@ -3,7 +3,7 @@
 // Of a longer input the first 4,096 bytes are judged, as if it ended there: no more are read.
 // A read or a write that fails is told on standard error, with the system's reason; where a read failed there is no report. The status is 0 all
 // the same, since the toolchain gives a program no other.
-// What text belongs to the bytes read is proved (`report::report`), and that the 23,000 bytes lent to it hold every text.
+// What text belongs to the bytes read is proved (`report::report`), and that the 92,000 bytes lent to it hold every text.
 // Not proved, since no contract can say it: that the system's read gives the bytes of standard input, and that its write puts these bytes out.
 use libc::STDIN_FILENO;
 use libc::STDOUT_FILENO;
@@ -51,7 +51,7 @@ fn main() {
         return;
     }
     let n = read.bytes;
-    let mut out = [0u8; 23000];
+    let mut out = [0u8; 92000];
     let long = report::report(&input[..n], &mut out);
     if !io::write_all(STDOUT_FILENO, &out[..long]) {
         os::fail(b"chainreport: writing the report");

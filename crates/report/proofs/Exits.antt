@@ -11,8 +11,10 @@ use Rattle.refusal.specs.declared.Refusal.{Refusal}
 use Rattle.refusal.specs.Refusals.{refusal}
 use Rattle.chain.specs.declared.Chain.{Chain}
 use Rattle.chain.specs.Chains.{tasksOf}
-use Rattle.schedule.specs.Schedules.{chainOf}
+use Rattle.little_endian.specs.LittleEndian.{Bytes}
 use Rattle.file_reader.specs.declared.FileRead.{FileRead}
+use Rattle.file_reader.specs.Reading.{readFile}
+use Rattle.round_trip.specs.RoundTrips.{read-sound}
 use Rattle.table.specs.Anchors.{Anchor, anchors}
 use Rattle.table.specs.WellFormed.{wellFormed}
 use Rattle.maker.specs.declared.Figures.{Figures}
@@ -23,7 +25,7 @@ use Rattle.maker.proofs.Lists.{sets-overlay}
 use Rattle.agreement.specs.MadeTable.{Completed, done, starts-length, latencies-length, made-anchors, made-well-formed}
 use Rattle.text.specs.Text.{Puts}
 use Rattle.table_text.specs.TableText.{refusedText, tableText}
-use Rattle.report.specs.Report.{longestPlace, madeText, chainText, fileText, reportOf, longestText, Reports}
+use Rattle.report.specs.Report.{longestPlace, madeText, chainText, scheduleText, fileText, reportOf, longestText, Reports}
 
 module _ (c : Chain) (twelve : length (c .tasks) ≡ 12) (p : ℕ) (s v s′ v′ : List ℕ) (m : Made) (long : length s ≡ 1024) (wide : length v ≡ 1024)
     (place : p ≡ longestPlace (tasksOf c)) (makes : Makes c p s v s′ v′ m) where
@@ -76,9 +78,13 @@ module _ (r : FileRead) where
   unfolding fileText
   file-refused h = rw (ne-eqb (r .refusal .number) 0 h)
 
-  pub file-read : r .refusal .number ≡ 0 → chainText 1024 (chainOf (r .schedule)) ≡ fileText r
+  pub file-read : r .refusal .number ≡ 0 → scheduleText 1024 (r .schedule) ≡ fileText r
   unfolding fileText
   file-read h = rw (eq-eqb (r .refusal .number) 0 h)
+
+-- a file that is read has at most four chains
+pub few-chains : (b : List ℕ) → Bytes b → (r : FileRead) → r ≡ readFile b → r .refusal .number ≡ 0 → r .schedule .chains ≤ 4
+few-chains b is r e fine = rw e (read-sound b is (ap (λ (x : FileRead). x .refusal .number) (sym e) ∙ fine) .few-chains)
 
 -- a text from the front, as the answer and the lent bytes show it
 pub reported : (bytes text old new : List ℕ) (n : ℕ) → text ≡ reportOf bytes → Puts text 0 old new n → n ≤ longestText → Reports bytes old new n

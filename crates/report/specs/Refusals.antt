@@ -1,5 +1,5 @@
--- The report of a file that is read: the text of its table, or the one line of 7 or that of 11, both at place 0 (`read-report`).
-use Prim.Native.Nat.{ℕ, _-_}
+-- The report of a file that is read: the text of its chains (`read-report`), of each the text of its table, or the one line of 7 or that of 11, both at place 0 (`read-part`).
+use Prim.Native.Nat.{ℕ, _-_, _≤_}
 use native.Mathlib.Omega.{arith}
 use mathlib.Core.Path.{_≡_, refl, _∙_}
 use mathlib.Core.Bool.{Bool, true, false, cond}
@@ -14,18 +14,18 @@ use Rattle.chain.specs.Chains.{tasksOf}
 use Rattle.chain.specs.Hyperperiod.{hyperOf}
 use Rattle.chain.specs.Checks.{hyperVerdict}
 use Rattle.little_endian.specs.LittleEndian.{Bytes}
-use Rattle.schedule.specs.Schedules.{chainOf}
-use Rattle.schedule.specs.ChainTasks.{chain-length, chain-twelve}
+use Rattle.schedule.specs.declared.Schedule.{Schedule}
+use Rattle.schedule.specs.Schedules.{chainAt}
+use Rattle.schedule_checks.specs.SoundChain.{sound-placed, sound-length, sound-chain, chain-at-twelve}
 use Rattle.file_reader.specs.Reading.{readFile}
-use Rattle.round_trip.specs.RoundTrips.{read-arrays, read-counts, read-placed}
-use Rattle.round_trip.specs.RightChain.{read-chain}
+use Rattle.round_trip.specs.RoundTrips.{read-arrays, read-sound}
 use Rattle.table.specs.Anchors.{Anchor}
 use Rattle.partition.specs.Partitions.{anchorsOf}
 use Rattle.maker.specs.declared.Figures.{Figures}
 use Rattle.maker.specs.declared.Made.the-variants.{Whole, Short}
 use Rattle.maker.specs.Making.{judged, figuresOf, madeAfter, writtenAfter}
 use Rattle.table_text.specs.TableText.{refusedText, tableText}
-use Rattle.report.specs.Report.{longestPlace, madeText, chainText, fileText, reportOf}
+use Rattle.report.specs.Report.{longestPlace, madeText, chainText, scheduleText, fileText, reportOf}
 use Rattle.report.specs.LongestPlace.{longest-place}
 use Rattle.report.specs.Ties.{judgedText, inside}
 
@@ -50,14 +50,24 @@ hyper-text slots c p = go (leb h 60000000)
         short false = eleven refl
     go false = seven refl
 
-pub read-report : (b : List ℕ) → Bytes b → readFile b .refusal .number ≡ 0 → TableOrRefusal (reportOf b)
-unfolding fileText chainText
-read-report b is fine =
-    let s = readFile b .schedule in
-    let c : Chain = chainOf s in
-    let long = read-arrays b is fine .chain in
-    let few = read-counts b is fine .1 in
-    let n : length (tasksOf c) ≡ s .places = chain-length s long few in
-    let k = longest-place (tasksOf c) (omega (arith, read-placed b is fine)) in
-    let e : judged c (longestPlace (tasksOf c)) 1024 1024 ≡ hyperVerdict (tasksOf c) = inside c (chain-twelve s long few) 1024 (longestPlace (tasksOf c)) (k .some) (omega (arith, k .inside)) ∙ read-chain b is fine in
-    rw (eq-eqb (readFile b .refusal .number) 0 fine, e) (hyper-text 1024 c (longestPlace (tasksOf c)))
+-- Of a file that is read, every chain has the text of its table, or the one line of 7 or that of 11.
+module _ (b : List ℕ) (is : Bytes b) (fine : readFile b .refusal .number ≡ 0) where
+  abbrev s : Schedule
+  s = readFile b .schedule
+
+  pub read-report : reportOf b ≡ scheduleText 1024 s
+  unfolding fileText
+  read-report = rw (eq-eqb (readFile b .refusal .number) 0 fine)
+
+  pub read-part : (n : ℕ) → 1 ≤ n → n ≤ s .chains → TableOrRefusal (chainText 1024 (chainAt s n))
+  unfolding chainText
+  read-part n some few =
+      let c : Chain = chainAt s n in
+      let a = read-arrays b is fine in
+      let k = read-sound b is fine in
+      let placed = sound-placed s a k n some few in
+      let m = sound-length s a k n some few in
+      let l = longest-place (tasksOf c) (omega (arith, placed .0)) in
+      let e : judged c (longestPlace (tasksOf c)) 1024 1024 ≡ hyperVerdict (tasksOf c)
+      = inside c (chain-at-twelve s a n some (omega (arith, k .few-chains))) 1024 (longestPlace (tasksOf c)) (l .some) (omega (arith, l .inside)) ∙ sound-chain s a k n some few in
+      rw e (hyper-text 1024 c (longestPlace (tasksOf c)))

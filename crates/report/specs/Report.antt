@@ -1,21 +1,25 @@
--- Document 01, program `chainreport`: the whole text for the bytes of a schedule file.
-use Prim.Native.Nat.{ℕ, _+_, _≤_, max}
+-- Document 01, program `chainreport`, with order 1 of document 02: the whole text for the bytes of a schedule file.
+use Prim.Native.Nat.{ℕ, suc, _+_, _≤_, max}
 use mathlib.Core.Path.{_≡_}
 use mathlib.Core.Bool.{cond}
-use mathlib.Core.List.{List, [], _∷_, map}
+use mathlib.Core.List.{List, [], _∷_, _++_, map}
 use lib.Dec.{eqb}
 use lib.ListN.{length}
 use Rattle.refusal.specs.Refusals.{refusal}
 use Rattle.task.specs.declared.Task.{Task}
 use Rattle.chain.specs.declared.Chain.{Chain}
 use Rattle.chain.specs.Chains.{tasksOf}
-use Rattle.schedule.specs.Schedules.{positionOf, chainOf}
+use Rattle.schedule.specs.declared.NumberedTask.{NumberedTask}
+use Rattle.schedule.specs.declared.Route.{Route}
+use Rattle.schedule.specs.declared.Schedule.{Schedule}
+use Rattle.schedule.specs.Schedules.{positionOf, tasksIn, routesIn, chainOf}
 use Rattle.file_reader.specs.declared.FileRead.{FileRead}
 use Rattle.file_reader.specs.Reading.{readFile}
 use Rattle.table.specs.Anchors.{Anchor}
 use Rattle.maker.specs.declared.Made.{Made}
 use Rattle.maker.specs.declared.Made.the-variants.{Whole, Short, Refused}
 use Rattle.maker.specs.Making.{madeOf, writtenOf, overlay}
+use Rattle.text.specs.Text.{ascii, line}
 use Rattle.table_text.specs.TableText.{refusedText, tableText}
 
 -- The longest period of a chain,
@@ -37,9 +41,20 @@ madeText (Refused r) l = refusedText r
 unfoldable pub chainText : ℕ → Chain → List ℕ
 chainText slots c = madeText (madeOf c (longestPlace (tasksOf c)) slots slots) (writtenOf c (longestPlace (tasksOf c)) slots slots)
 
--- A file that is read has the text of its chain, made with 1,024 slots; else that of the refusal.
+-- The report prints each chain in turn under a line `chain N`, also where there is one chain; a refused chain has its refusal line there and the next chain follows.
+unfoldable pub partText : ℕ → ℕ → Chain → List ℕ
+partText slots n c = line (ascii "chain") (n ∷ []) ++ chainText slots c
+
+unfoldable pub partsText : ℕ → List NumberedTask → ℕ → List Route → List ℕ
+partsText slots ts n [] = []
+partsText slots ts n (r ∷ rs) = partText slots n (chainOf ts r) ++ partsText slots ts (suc n) rs
+
+unfoldable pub scheduleText : ℕ → Schedule → List ℕ
+scheduleText slots s = partsText slots (tasksIn s) 1 (routesIn s)
+
+-- A file that is read has the text of its chains, each made with 1,024 slots; else the one line of the refusal.
 unfoldable pub fileText : FileRead → List ℕ
-fileText r = cond (eqb (r .refusal .number) 0) (chainText 1024 (chainOf (r .schedule))) (refusedText (r .refusal))
+fileText r = cond (eqb (r .refusal .number) 0) (scheduleText 1024 (r .schedule)) (refusedText (r .refusal))
 
 -- The whole text for the bytes of a file.
 abbrev pub reportOf : List ℕ → List ℕ
@@ -47,7 +62,7 @@ reportOf bytes = fileText (readFile bytes)
 
 -- No report is longer.
 abbrev pub longestText : ℕ
-longestText = 23000
+longestText = 92000
 
 -- What `report` answers and leaves: the answer is the text's length; the lent bytes hold the text, as much of it as fits, and past it what was there.
 pub record Reports (bytes old new : List ℕ) (answer : ℕ) : Type 0 where

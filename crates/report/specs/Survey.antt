@@ -22,7 +22,7 @@ use Rattle.figures.specs.Figures.{delaySum}
 use Rattle.maker.specs.Making.{judged, madeAfter, writtenAfter}
 use Rattle.text.specs.Text.{ascii, lastDigits, decimal, fields, line}
 use Rattle.table_text.specs.TableText.{anchorLines, headText, figuresText, tableText}
-use Rattle.report.specs.Report.{longestPeriod, longestPlace, madeText, chainText, fileText, reportOf}
+use Rattle.report.specs.Report.{longestPeriod, longestPlace, madeText, chainText, partText, partsText, scheduleText, fileText, reportOf}
 
 -- Chain A, tasks 1 and 2 in a file of 48 bytes.
 abbrev pub fileA : List ℕ
@@ -32,6 +32,6 @@ fileA =
     ∷ 8 ∷ 0 ∷ 2 ∷ 0 ∷ 1 ∷ 0 ∷ 2 ∷ 0
     ∷ 4 ∷ 0 ∷ 3 ∷ 0 ∷ []
 
-pub report-a : reportOf fileA ≡ ascii "warm 0\nhyper 12\nanchors 2\na 0 18\na 8 16\nmax 18\nlow 10\nmean 174 12\nwalked 2\n"
-unfolding withinLimits earliestFrom latestBy forwardLink backwardLink euclid gcdOf lcmOf valueOf numberAt forwardBy onLatest backwardBy firstFault hyperVerdict verdictFor hyperFrom taskRule positionOf known taskNumbered padded numbersFrom allKnown taskRecord chainRecord endRecord kindRecord recordOf afterRecord readFrom leastFrom warmLast warmAt warmTick rangeFrom keep fresh dropRepeats startOf endOf keeps anchorsFrom anchors lastAt delayAt greatest lowTo low total delaySum judged madeAfter writtenAfter lastDigits decimal fields line longestPeriod longestPlace anchorLines headText figuresText tableText madeText chainText fileText
+pub report-a : reportOf fileA ≡ ascii "chain 1\nwarm 0\nhyper 12\nanchors 2\na 0 18\na 8 16\nmax 18\nlow 10\nmean 174 12\nwalked 2\n"
+unfolding withinLimits earliestFrom latestBy forwardLink backwardLink euclid gcdOf lcmOf valueOf numberAt forwardBy onLatest backwardBy firstFault hyperVerdict verdictFor hyperFrom taskRule positionOf known taskNumbered padded numbersFrom allKnown taskRecord chainRecord endRecord kindRecord recordOf afterRecord readFrom leastFrom warmLast warmAt warmTick rangeFrom keep fresh dropRepeats startOf endOf keeps anchorsFrom anchors lastAt delayAt greatest lowTo low total delaySum judged madeAfter writtenAfter lastDigits decimal fields line longestPeriod longestPlace anchorLines headText figuresText tableText madeText chainText partText partsText scheduleText fileText
 report-a = refl

@@ -42,7 +42,7 @@ array-share-prefix-out c = search needs
 slice-aggregate-write-all : tie.Need-slice-aggregate-write-all
 slice-aggregate-write-all c =
     let r = c .before .before .report in
-    front-length _ (replicate {A = ℕ} 23000 0) _ _ (r .ensures) (subst (λ (k : ℕ). r .result ≤ k) (sym (length-replicate {A = ℕ} 23000 0)) (r .ensures .short))
+    front-length _ (replicate {A = ℕ} 92000 0) _ _ (r .ensures) (subst (λ (k : ℕ). r .result ≤ k) (sym (length-replicate {A = ℕ} 92000 0)) (r .ensures .short))
 
 write-all-requires : tie.Need-write-all-requires
 write-all-requires c κs = search needs
