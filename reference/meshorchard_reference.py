@@ -1,27 +1,33 @@
 """Reference program of Meshorchard: delay tables for chains of
 fixed-duration tasks of cave-survey laser instruments.
 
-It is written from document 01 alone and follows its definitions as
-literally as running time allows.  It uses the standard library only.
+It is written from document 01 and order 1 of document 02 alone and follows
+their definitions as literally as running time allows.  It uses the standard
+library only.
 
 Conventions
   A task is (T, D, F): period, duration, phase.
   A chain is a list of tasks, one for each place.
-  Places count from 1, job numbers count from 0.
+  A schedule is given as task_count, tasks, chain_count, chains.  A task there
+  is (number, T, D, F), a chain is (place_count, task numbers).  Entries past
+  a count are no part of it.
+  Places and chains count from 1, job numbers count from 0.
   A success is ("ok", ...), a refusal is ("refused", number, place).
 """
 
+import functools
 import math
 import struct
 
 # ---------------------------------------------------------------------------
-# Limits of document 01
+# Limits of document 01 and of order 1
 # ---------------------------------------------------------------------------
 
 LONGEST_PERIOD = 1_000_000
 LONGEST_DURATION = 4_000_000
 LARGEST_PHASE = 1_000_000
 MOST_TASKS = 32
+MOST_CHAINS = 4
 MOST_PLACES = 12
 LARGEST_HYPERPERIOD = 60_000_000
 LARGEST_LATENCY = 60_000_000
@@ -33,7 +39,8 @@ REPORT_BYTES = 4_096
 REPORT_SLOTS = 1_024
 
 # Figures of a table are had tick by tick up to this hyperperiod.
-# Beyond it they are had segment by segment.
+# Beyond it they are had segment by segment.  The same limit holds for the
+# greatest difference of two chains and their common hyperperiod.
 ENUMERATION_LIMIT = 20_000
 
 # The warm-up job is searched upward, job by job, up to this number.
@@ -240,15 +247,20 @@ def warm_up(tasks):
 # Delay and age
 # ---------------------------------------------------------------------------
 
-def walked_delay(tasks, t):
-    """The delay at tick t, without the refusals.
+def booking(tasks, t):
+    """The last write of the forward walk of a press at tick t.
 
     The first place's earliest job that reads strictly after t reads at or
     after t + 1, ticks being whole.
     """
     job = earliest_reading_at_or_after(tasks[0], t + 1)
     end_job = forward(tasks, 1, job)
-    return write_of(tasks[-1], end_job) - t
+    return write_of(tasks[-1], end_job)
+
+
+def walked_delay(tasks, t):
+    """The delay at tick t, without the refusals."""
+    return booking(tasks, t) - t
 
 
 def walked_age(tasks, z):
@@ -606,6 +618,89 @@ def windows(tasks, B, k):
 
 
 # ---------------------------------------------------------------------------
+# Two chains
+# ---------------------------------------------------------------------------
+
+def next_change(tasks, t):
+    """The first tick after t whose booking is another than that of t.
+
+    The job that ends the walk from t also ends the walk from every job of
+    the first place up to the one it reaches backward.  A press at the read
+    of that one comes too late for it.
+    """
+    job = earliest_reading_at_or_after(tasks[0], t + 1)
+    end_job = forward(tasks, 1, job)
+    return read_of(tasks[0], backward(tasks, len(tasks), end_job))
+
+
+def greatest_difference_by_ticks(first, second, from_tick, common):
+    """The greatest difference of the bookings, tick by tick."""
+    return max(abs(booking(first, t) - booking(second, t))
+               for t in range(from_tick, from_tick + common))
+
+
+def greatest_difference_by_segments(first, second, from_tick, common):
+    """The same, by the segments in which one chain's booking stays.
+
+    In a segment the other booking never falls, so the difference is
+    greatest at the segment's first or last tick.  The segments are those
+    of the chain with the longest period, which has few.
+    """
+    if max(task[0] for task in first) >= max(task[0] for task in second):
+        steady, other = first, second
+    else:
+        steady, other = second, first
+    largest = 0
+    t = from_tick
+    while t < from_tick + common:
+        after = min(next_change(steady, t), from_tick + common)
+        stays = booking(steady, t)
+        largest = max(largest,
+                      abs(stays - booking(other, t)),
+                      abs(stays - booking(other, after - 1)))
+        t = after
+    return largest
+
+
+@functools.lru_cache(maxsize=64)
+def greatest_difference(first, second, from_tick, common):
+    """The greatest difference over the common ticks from the tick given.
+
+    It does not depend on the press, so the last answers are kept.
+    """
+    if common <= ENUMERATION_LIMIT:
+        return greatest_difference_by_ticks(first, second, from_tick, common)
+    return greatest_difference_by_segments(first, second, from_tick, common)
+
+
+def bookings(first_tasks, second_tasks, t):
+    """Two chains: ("ok", later, earlier, difference, greatest).
+
+    Refusals: the first chain's own 8, 5, 7, the second's own, 7 for the
+    common hyperperiod, 12 for a tick before either warm-up, 13.
+    """
+    first = warm_up(first_tasks)
+    if first[0] != "ok":
+        return first
+    second = warm_up(second_tasks)
+    if second[0] != "ok":
+        return second
+    common = hyperperiod(list(first_tasks) + list(second_tasks))
+    if common > LARGEST_HYPERPERIOD:
+        return refused(7)
+    later_warm_up = max(first[2], second[2])
+    if t < later_warm_up:
+        return refused(12)
+    if t > UPPER_TICK:
+        return refused(13)
+    both = [booking(first_tasks, t), booking(second_tasks, t)]
+    largest = greatest_difference(tuple(map(tuple, first_tasks)),
+                                  tuple(map(tuple, second_tasks)),
+                                  later_warm_up, common)
+    return ("ok", max(both), min(both), max(both) - min(both), largest)
+
+
+# ---------------------------------------------------------------------------
 # Schedule file
 # ---------------------------------------------------------------------------
 
@@ -618,13 +713,13 @@ CHAIN_LENGTHS = [4 + 2 * places for places in range(1, MOST_PLACES + 1)]
 
 
 def read_file(data):
-    """Reading a file: ("ok", tasks, chain), or the first fault.
+    """Reading a file: ("ok", tasks, chains), or the first fault.
 
-    tasks is a list of (number, T, D, F), chain a list of task numbers.
-    The place of a refusal is a byte offset.
+    tasks is a list of (number, T, D, F), chains a list of lists of task
+    numbers.  The place of a refusal is a byte offset.
     """
     tasks = []
-    chain = None
+    chains = []
     offset = 0
     while True:
         remaining = len(data) - offset
@@ -650,8 +745,8 @@ def read_file(data):
             return refused(2, offset)
 
         if kind == KIND_TASK:
-            # 4: task after the chain, 33rd task.
-            if chain is not None or len(tasks) == MOST_TASKS:
+            # 4: task after a chain, 33rd task.
+            if chains or len(tasks) == MOST_TASKS:
                 return refused(4, offset)
             number, T, D, F = struct.unpack_from("<HIII", data, offset + 4)
             # 5: task number or value outside its rule.
@@ -664,8 +759,8 @@ def read_file(data):
             tasks.append((number, T, D, F))
 
         elif kind == KIND_CHAIN:
-            # 4: chain first or twice.
-            if not tasks or chain is not None:
+            # 4: chain first, fifth chain.
+            if not tasks or len(chains) == MOST_CHAINS:
                 return refused(4, offset)
             places = (length - 4) // 2
             numbers = list(struct.unpack_from("<%dH" % places, data,
@@ -674,55 +769,69 @@ def read_file(data):
             known = {task[0] for task in tasks}
             if any(number not in known for number in numbers):
                 return refused(6, offset)
-            chain = numbers
+            chains.append(numbers)
 
         else:
-            # 4: end before the chain.
-            if chain is None:
+            # 4: end before a chain.
+            if not chains:
                 return refused(4, offset)
             # A byte after end is 4 at that byte.
             if offset + length < len(data):
                 return refused(4, offset + length)
-            return ("ok", tasks, chain)
+            return ("ok", tasks, chains)
 
         offset += length
 
 
-def write_file(task_count, tasks, place_count, chain, lent):
+def schedule_fault(task_count, tasks, chain_count, chains):
+    """The refusal 8, 5 or 6 of a schedule, or None.
+
+    Array entries past a count are no part of the schedule.
+    """
+    # 8: task count, number of chains or of places outside its limits.
+    if not 1 <= task_count <= MOST_TASKS:
+        return refused(8)
+    if not 1 <= chain_count <= MOST_CHAINS:
+        return refused(8)
+    for place_count, _numbers in chains[:chain_count]:
+        if not 1 <= place_count <= MOST_PLACES:
+            return refused(8)
+    # 5: lowest task outside its rule.
+    counted = tasks[:task_count]
+    for position, (number, T, D, F) in enumerate(counted, start=1):
+        if not 1 <= number <= LARGEST_TASK_NUMBER:
+            return refused(5, position)
+        if position > 1 and number <= counted[position - 2][0]:
+            return refused(5, position)
+        if not task_within_rule((T, D, F)):
+            return refused(5, position)
+    # 6: chain by chain, lowest position with an unknown task.
+    known = {task[0] for task in counted}
+    for place_count, numbers in chains[:chain_count]:
+        for position, number in enumerate(numbers[:place_count], start=1):
+            if number not in known:
+                return refused(6, position)
+    return None
+
+
+def write_file(task_count, tasks, chain_count, chains, lent):
     """Writing a file: (answer, lent bytes after).
 
     The answer is ("ok", length), or refusal 8, 5, 6, 11.
-    Array entries past a count are no part of the schedule.
     """
     lent = bytes(lent)
-    # 8: task count or number of places outside its limits.
-    if not 1 <= task_count <= MOST_TASKS:
-        return (refused(8), lent)
-    if not 1 <= place_count <= MOST_PLACES:
-        return (refused(8), lent)
-    counted = list(tasks[:task_count])
-    numbers = list(chain[:place_count])
-    # 5: lowest task outside its rule.
-    for position, (number, T, D, F) in enumerate(counted, start=1):
-        if not 1 <= number <= LARGEST_TASK_NUMBER:
-            return (refused(5, position), lent)
-        if position > 1 and number <= counted[position - 2][0]:
-            return (refused(5, position), lent)
-        if not task_within_rule((T, D, F)):
-            return (refused(5, position), lent)
-    # 6: lowest chain position with an unknown task.
-    known = {task[0] for task in counted}
-    for position, number in enumerate(numbers, start=1):
-        if number not in known:
-            return (refused(6, position), lent)
-    # Tasks, chain, end.
+    fault = schedule_fault(task_count, tasks, chain_count, chains)
+    if fault is not None:
+        return (fault, lent)
+    # Tasks, chains, end.
     file = b""
-    for number, T, D, F in counted:
+    for number, T, D, F in tasks[:task_count]:
         file += struct.pack("<HHHIII", TASK_LENGTH, KIND_TASK,
                             number, T, D, F)
-    file += struct.pack("<HH", 4 + 2 * place_count, KIND_CHAIN)
-    for number in numbers:
-        file += struct.pack("<H", number)
+    for place_count, numbers in chains[:chain_count]:
+        file += struct.pack("<HH", 4 + 2 * place_count, KIND_CHAIN)
+        for number in numbers[:place_count]:
+            file += struct.pack("<H", number)
     file += struct.pack("<HH", END_LENGTH, KIND_END)
     # 11: lent bytes shorter than the file.
     if len(lent) < len(file):
@@ -731,14 +840,82 @@ def write_file(task_count, tasks, place_count, chain, lent):
 
 
 # ---------------------------------------------------------------------------
-# Program chainreport
+# Analyses from a schedule
 # ---------------------------------------------------------------------------
 
-def chain_of_schedule(tasks, chain):
-    """The chain's places as (T, D, F), from a read schedule."""
-    by_number = {number: (T, D, F) for number, T, D, F in tasks}
-    return [by_number[number] for number in chain]
+def chain_of_schedule(task_count, tasks, chain_count, chains, n):
+    """Chain n: ("ok", its places as (T, D, F)), or refusal 8, 5, 6, 16."""
+    fault = schedule_fault(task_count, tasks, chain_count, chains)
+    if fault is not None:
+        return fault
+    # 16: a chain number not in the schedule.
+    if not 1 <= n <= chain_count:
+        return refused(16)
+    by_number = {number: (T, D, F) for number, T, D, F in tasks[:task_count]}
+    place_count, numbers = chains[n - 1]
+    return ("ok", [by_number[number] for number in numbers[:place_count]])
 
+
+def warm_up_of(task_count, tasks, chain_count, chains, n):
+    """Warm-up of chain n.  Refusals 8, 5, 6, 16, then those of warm_up."""
+    chain = chain_of_schedule(task_count, tasks, chain_count, chains, n)
+    if chain[0] != "ok":
+        return chain
+    return warm_up(chain[1])
+
+
+def delay_of(task_count, tasks, chain_count, chains, n, t):
+    """Walking chain n.  Refusals 8, 5, 6, 16, then those of delay."""
+    chain = chain_of_schedule(task_count, tasks, chain_count, chains, n)
+    if chain[0] != "ok":
+        return chain
+    return delay(chain[1], t)
+
+
+def age_of(task_count, tasks, chain_count, chains, n, z):
+    """Ageing chain n.  Refusals 8, 5, 6, 16, then those of age."""
+    chain = chain_of_schedule(task_count, tasks, chain_count, chains, n)
+    if chain[0] != "ok":
+        return chain
+    return age(chain[1], z)
+
+
+def make_of(task_count, tasks, chain_count, chains, n, p, starts, latencies):
+    """Making a table of chain n: (answer, starts after, latencies after).
+
+    Refusals 8, 5, 6, 16, then those of make.
+    """
+    chain = chain_of_schedule(task_count, tasks, chain_count, chains, n)
+    if chain[0] != "ok":
+        return (chain, list(starts), list(latencies))
+    return make(chain[1], p, starts, latencies)
+
+
+def windows_of(task_count, tasks, chain_count, chains, n, B, k):
+    """Windows of chain n.  Refusals 8, 5, 6, 16, then those of windows."""
+    chain = chain_of_schedule(task_count, tasks, chain_count, chains, n)
+    if chain[0] != "ok":
+        return chain
+    return windows(chain[1], B, k)
+
+
+def bookings_of(task_count, tasks, chain_count, chains, first, second, t):
+    """Two chains by their numbers, which may be equal.
+
+    Refusals 8, 5, 6, 16 for either number, then those of bookings.
+    """
+    one = chain_of_schedule(task_count, tasks, chain_count, chains, first)
+    if one[0] != "ok":
+        return one
+    two = chain_of_schedule(task_count, tasks, chain_count, chains, second)
+    if two[0] != "ok":
+        return two
+    return bookings(one[1], two[1], t)
+
+
+# ---------------------------------------------------------------------------
+# Program chainreport
+# ---------------------------------------------------------------------------
 
 def longest_period_place(tasks):
     """The place with the longest period, lowest place among equals."""
@@ -746,21 +923,18 @@ def longest_period_place(tasks):
     return periods.index(max(periods)) + 1
 
 
-def report(data):
-    """The whole text that chainreport prints for this input."""
-    def refusal_line(answer):
-        return ("refused %d %d\n" % (answer[1], answer[2])).encode("ascii")
+def refusal_line(answer):
+    """The line of a refusal: its number and its place."""
+    return "refused %d %d" % (answer[1], answer[2])
 
-    # Of a longer input the first 4,096 bytes are judged.
-    schedule = read_file(bytes(data[:REPORT_BYTES]))
-    if schedule[0] != "ok":
-        return refusal_line(schedule)
-    tasks = chain_of_schedule(schedule[1], schedule[2])
+
+def lines_of_chain(tasks):
+    """The lines of one chain: its table and figures, or its refusal."""
     p = longest_period_place(tasks)
     slots = [0] * REPORT_SLOTS
     answer, starts, latencies = make(tasks, p, slots, slots)
     if answer[0] != "ok":
-        return refusal_line(answer)
+        return [refusal_line(answer)]
     _ok, g, x0, H, walked = answer
     lines = ["warm %d" % x0, "hyper %d" % H, "anchors %d" % g]
     for index in range(g):
@@ -769,6 +943,26 @@ def report(data):
     lines.append("low %d" % low(starts, latencies, g, H)[1])
     lines.append("mean %d %d" % mean(starts, latencies, g, H)[1:])
     lines.append("walked %d" % walked)
+    return lines
+
+
+def report(data):
+    """The whole text that chainreport prints for this input."""
+    # Of a longer input the first 4,096 bytes are judged.
+    schedule = read_file(bytes(data[:REPORT_BYTES]))
+    if schedule[0] != "ok":
+        lines = [refusal_line(schedule)]
+    else:
+        _ok, tasks, chains = schedule
+        counted = [(len(numbers), numbers) for numbers in chains]
+        lines = []
+        for n in range(1, len(chains) + 1):
+            lines.append("chain %d" % n)
+            chain = chain_of_schedule(len(tasks), tasks,
+                                      len(counted), counted, n)
+            if chain[0] != "ok":
+                raise AssertionError("a schedule that was read is refused")
+            lines += lines_of_chain(chain[1])
     return ("\n".join(lines) + "\n").encode("ascii")
 
 

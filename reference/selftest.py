@@ -3,12 +3,14 @@
 Run: python3 reference/selftest.py
 It prints one line for each group and last `N passed, M failed`.
 Each check compares two things that are computed independently: a printed
-figure of document 01 with a computed one, or two different methods.
+figure of document 01 with a computed one, a figure had by hand with a
+computed one, or two different methods.
 """
 
 import itertools
 import math
 import random
+import re
 import sys
 
 sys.dont_write_bytecode = True
@@ -24,7 +26,7 @@ UPPER = 1_000_000_000_000
 # ---------------------------------------------------------------------------
 
 class Counter:
-    """Counts the checks of the group that runs, and the groups without a failure."""
+    """Counts checks of the group that runs, and groups without a failure."""
 
     def __init__(self):
         self.passed = 0
@@ -296,7 +298,8 @@ FILE_A = bytes.fromhex(
     "0800" "0200" "0100" "0200"
     "0400" "0300")
 
-REPORT_A = b"""warm 0
+REPORT_A = b"""chain 1
+warm 0
 hyper 12
 anchors 2
 a 0 18
@@ -318,17 +321,42 @@ def padded_chain(chain):
     return list(chain) + [7] * (12 - len(chain))
 
 
+def padded_chains(chains):
+    """A schedule's 4 chains with their counts; those past are junk."""
+    return [(len(chain), padded_chain(chain)) for chain in chains] \
+        + [(99, [0] * 12)] * (4 - len(chains))
+
+
+def schedule(tasks, chains):
+    """The arguments that stand for a schedule."""
+    return (len(tasks), padded(tasks), len(chains), padded_chains(chains))
+
+
 def group_file_of_chain_a(_rng):
     tasks = [(1, 4, 4, 0), (2, 6, 6, 0)]
     same(len(FILE_A), 48, "length")
-    same(ref.read_file(FILE_A), ("ok", tasks, [1, 2]), "read")
-    same(ref.write_file(2, padded(tasks), 2, padded_chain([1, 2]),
-                        b"\xaa" * 50),
+    same(ref.read_file(FILE_A), ("ok", tasks, [[1, 2]]), "read")
+    same(ref.write_file(*schedule(tasks, [[1, 2]]), b"\xaa" * 50),
          (("ok", 48), FILE_A + b"\xaa\xaa"), "written")
-    same(ref.write_file(2, padded(tasks), 2, padded_chain([1, 2]),
-                        b"\xaa" * 47),
+    same(ref.write_file(*schedule(tasks, [[1, 2]]), b"\xaa" * 47),
          (("refused", 11, 0), b"\xaa" * 47), "lent bytes short")
     same(ref.report(FILE_A), REPORT_A, "report")
+    # A second chain record, byte for byte: task 2 alone.
+    file = FILE_A[:44] + bytes.fromhex("0600" "0200" "0200" "0400" "0300")
+    same(ref.read_file(file), ("ok", tasks, [[1, 2], [2]]), "two chains")
+    same(ref.write_file(*schedule(tasks, [[1, 2], [2]]), bytes(60)),
+         (("ok", 54), file + bytes(6)), "two chains written")
+    # Its one anchor: press at 0, read at 6, write at 12.
+    same(ref.report(file), REPORT_A + b"""chain 2
+warm 0
+hyper 6
+anchors 1
+a 0 12
+max 12
+low 6
+mean 57 6
+walked 1
+""", "report of two chains")
 
 
 # ---------------------------------------------------------------------------
@@ -700,7 +728,7 @@ END = le(4, 2) + le(3, 2)
 
 
 def random_schedule(rng):
-    """A random schedule within all rules: tasks and chain."""
+    """A random schedule within all rules: tasks and 1 to 4 chains."""
     count = rng.choice([1, 2, 3, rng.randint(1, 32), 32])
     numbers = sorted(rng.sample(range(1, 65_536), count))
     if rng.random() < 0.2:
@@ -713,8 +741,10 @@ def random_schedule(rng):
                       rng.choice([1, 1_000_000, rng.randint(1, 1_000_000)]),
                       rng.choice([1, 4_000_000, rng.randint(1, 4_000_000)]),
                       rng.choice([0, 1_000_000, rng.randint(0, 1_000_000)])))
-    chain = [rng.choice(numbers) for _ in range(rng.randint(1, 12))]
-    return tasks, chain
+    chains = [[rng.choice(numbers)
+               for _ in range(rng.choice([1, 12, rng.randint(1, 12)]))]
+              for _ in range(rng.randint(1, 4))]
+    return tasks, chains
 
 
 def number_at(data, offset, width):
@@ -769,7 +799,7 @@ def first_fault(data):
             if length % 2 or length < 6 or length > 28:
                 faults.append((offset, 5, 2))
                 continue
-            if chains_before or not tasks_before:
+            if len(chains_before) >= 4 or not tasks_before:
                 faults.append((offset, 6, 4))
             known = [number_at(data, at + 4, 2) for at in tasks_before]
             for at in range(offset + 4, offset + length, 2):
@@ -823,21 +853,22 @@ def changed_file(rng, records):
 
 
 def group_file_round_trips(rng):
+    counts = set()
     for _ in range(300):
-        tasks, chain = random_schedule(rng)
+        tasks, chains = random_schedule(rng)
+        counts.add(len(chains))
         records = [task_record(*task) for task in tasks]
-        records += [chain_record(chain), END]
+        records += [chain_record(chain) for chain in chains] + [END]
         file = b"".join(records)
-        same(ref.read_file(file), ("ok", tasks, chain), "read")
+        same(ref.read_file(file), ("ok", tasks, chains), "read")
         extra = rng.randint(0, 40)
         lent = bytes(rng.randrange(256) for _ in range(len(file) + extra))
-        same(ref.write_file(len(tasks), padded(tasks), len(chain),
-                            padded_chain(chain), lent),
+        same(ref.write_file(*schedule(tasks, chains), lent),
              (("ok", len(file)), file + lent[len(file):]), "written")
-        short = lent[:rng.randrange(len(file))]
-        same(ref.write_file(len(tasks), padded(tasks), len(chain),
-                            padded_chain(chain), short),
-             (("refused", 11, 0), short), "lent bytes short")
+        for length in (len(file) - 1, rng.randrange(len(file))):
+            short = lent[:length]
+            same(ref.write_file(*schedule(tasks, chains), short),
+                 (("refused", 11, 0), short), "lent bytes short")
         # A file cut anywhere is 1 at the record that is cut or missing.
         begins = [0]
         for record in records[:-1]:
@@ -856,14 +887,14 @@ def group_file_round_trips(rng):
             changed = changed_file(rng, records)
             answer = ref.read_file(changed)
             if answer[0] == "ok":
-                back = ref.write_file(
-                    len(answer[1]), padded(answer[1]),
-                    len(answer[2]), padded_chain(answer[2]), bytes(640))
+                back = ref.write_file(*schedule(answer[1], answer[2]),
+                                      bytes(700))
                 same(back, (("ok", len(changed)),
-                            changed + bytes(640 - len(changed))),
+                            changed + bytes(700 - len(changed))),
                      "accepted and written back")
             same(answer[:3] if answer[0] == "refused" else None,
                  first_fault(changed), "first fault of %s" % changed.hex())
+    same(counts, {1, 2, 3, 4}, "1 to 4 chains were met")
 
 
 def group_file_faults(_rng):
@@ -901,7 +932,25 @@ def group_file_faults(_rng):
         ("33rd task", many + task_record(33, 1, 1, 0), 4, 576),
         ("bad 33rd task", many + task_record(1, 0, 0, 0), 4, 576),
         ("chain first", chain + END, 4, 0),
-        ("chain twice", one + two + chain + chain_record([9]), 4, 44),
+        ("task after two chains",
+         one + chain_record([3]) + chain_record([3]) + two + END, 4, 30),
+        ("fifth chain", one + two + chain * 5 + END, 4, 68),
+        ("bad fifth chain", one + two + chain * 4 + chain_record([9]), 4, 68),
+        ("fifth chain of 13",
+         one + two + chain * 4 + chain_record([3] * 13), 2, 68),
+        ("fifth chain cut", one + two + chain * 4 + chain[:7], 1, 68),
+        ("missing end after four chains", one + two + chain * 4, 1, 68),
+        ("missing end after three chains", one + two + chain * 3, 1, 60),
+        ("unknown task in the second chain",
+         one + two + chain + chain_record([3, 9]) + END, 6, 44),
+        ("unknown task in the third chain",
+         one + two + chain * 2 + chain_record([7, 7, 0]) + END, 6, 52),
+        ("unknown task in the fourth chain",
+         one + two + chain * 3 + chain_record([1]) + chain, 6, 60),
+        ("second chain of no place",
+         one + two + chain + le(4, 2) + le(2, 2) + END, 2, 44),
+        ("byte after end of two chains",
+         one + two + chain * 2 + END + b"\0", 4, 56),
         ("end first", END, 4, 0),
         ("end before the chain", one + END, 4, 18),
         ("task number 0", task_record(0, 10, 2, 0), 5, 0),
@@ -921,95 +970,703 @@ def group_file_faults(_rng):
     for what, data, number, offset in cases:
         same(ref.read_file(data), ("refused", number, offset), what)
         same(ref.report(data), b"refused %d %d\n" % (number, offset), what)
-    same(ref.read_file(many + chain_record([32] * 12) + END),
-         ("ok", [(n, 10, 1, 0) for n in range(1, 33)], [32] * 12),
+    largest = many + chain_record([32] * 12) * 4 + END
+    same(ref.read_file(largest),
+         ("ok", [(n, 10, 1, 0) for n in range(1, 33)], [[32] * 12] * 4),
          "largest file")
-    same(len(many + chain_record([32] * 12) + END), 608, "largest length")
+    same(len(largest), 692, "largest length")
+    for count in range(1, 5):
+        same(ref.read_file(one + two + chain * count + END),
+             ("ok", [(3, 10, 2, 0), (7, 20, 5, 1)], [[3, 7]] * count),
+             "%d equal chains" % count)
+
+
+def group_file_turns(_rng):
+    """Every turn of records: t task, c chain, x bad chain, e end.
+
+    A bad chain names an unknown task.  An expression says which rows of
+    records may begin a file.
+    """
+    begins = re.compile("t{0,32}|t{1,32}c{1,4}e?")
+
+    def judge(row):
+        records = []
+        for index, letter in enumerate(row):
+            records.append({"t": task_record(index + 1, 10, 1, 0),
+                            "c": chain_record([1, 1]),
+                            "x": chain_record([1, 99]),
+                            "e": END}[letter])
+        expected = None
+        for index, letter in enumerate(row):
+            offset = sum(map(len, records[:index]))
+            if not begins.fullmatch(row[:index + 1].replace("x", "c")):
+                expected = ("refused", 4, offset)
+            elif letter == "x":
+                expected = ("refused", 6, offset)
+            if expected is not None:
+                break
+        else:
+            if row.endswith("e"):
+                expected = ("ok", [(n, 10, 1, 0) for n
+                                   in range(1, row.count("t") + 1)],
+                            [[1, 1]] * row.count("c"))
+            else:
+                expected = ("refused", 1, sum(map(len, records)))
+        same(ref.read_file(b"".join(records)), expected, row)
+
+    for length in range(6):
+        for letters in itertools.product("tcxe", repeat=length):
+            judge("".join(letters))
+    for letters in itertools.product("tcxe", repeat=6):
+        judge("t" + "".join(letters))
+    for tasks in range(30, 34):
+        for chains in range(6):
+            judge("t" * tasks + "c" * chains + "e")
 
 
 def group_file_writing(rng):
-    lent = bytes(rng.randrange(256) for _ in range(640))
+    lent = bytes(rng.randrange(256) for _ in range(700))
     good = [(n, 10, 1, 0) for n in range(1, 33)]
     chain = list(range(1, 13))
+    bad_tasks = [(0, 0, 0, 0)] * 32
 
-    def written(task_count, tasks, place_count, numbers):
-        answer, after = ref.write_file(task_count, tasks, place_count,
-                                       numbers, lent)
+    def written(task_count, tasks, chain_count, chains):
+        answer, after = ref.write_file(task_count, tasks, chain_count,
+                                       chains, lent)
         if answer[0] == "refused":
             same(after, lent, "lent bytes stay")
+            same(ref.schedule_fault(task_count, tasks, chain_count, chains),
+                 answer, "the schedule's fault")
+        else:
+            same(ref.schedule_fault(task_count, tasks, chain_count, chains),
+                 None, "no fault")
         return answer
 
     for count in (0, 33, 2 ** 32, 2 ** 64 - 1):
-        same(written(count, [(0, 0, 0, 0)] * 32, 1, chain),
+        same(written(count, bad_tasks, 1, [(1, chain)] * 4),
              ("refused", 8, 0), "task count %d" % count)
+    for count in (0, 5, 2 ** 32, 2 ** 64 - 1):
+        same(written(1, bad_tasks, count, [(1, chain)] * 4),
+             ("refused", 8, 0), "number of chains %d" % count)
+        same(written(1, good, count, [(1, [1] * 12)] * 5),
+             ("refused", 8, 0), "number of chains %d alone" % count)
+    # The number of places of every counted chain, before 5 and 6.
     for places in (0, 13, 2 ** 64 - 1):
-        same(written(1, [(0, 0, 0, 0)] * 32, places, chain),
-             ("refused", 8, 0), "places %d" % places)
+        for which in range(1, 5):
+            chains = [(1, [99] * 12)] * 4
+            chains[which - 1] = (places, [99] * 12)
+            for count in range(1, 5):
+                same(written(1, bad_tasks, count, chains),
+                     ("refused", 8, 0) if which <= count
+                     else ("refused", 5, 1),
+                     "places %d of chain %d of %d" % (places, which, count))
     bad = [(0, 10, 1, 0), (5, 0, 1, 0), (5, 1_000_001, 1, 0), (5, 1, 0, 0),
            (5, 1, 4_000_001, 0), (5, 1, 1, 1_000_001), (4, 1, 1, 0)]
+    unknown = [(1, [99] * 12)] * 4
     for one in bad:
         tasks = list(good)
         tasks[4] = one
-        same(written(32, tasks, 1, [99] * 12), ("refused", 5, 5), repr(one))
+        for count in range(1, 5):
+            same(written(32, tasks, count, unknown), ("refused", 5, 5),
+                 repr(one))
         tasks[9] = (0, 0, 0, 0)
-        same(written(32, tasks, 1, [99] * 12), ("refused", 5, 5), repr(one))
-        same(written(4, tasks, 4, chain), ("ok", 4 * 18 + 12 + 4),
+        same(written(32, tasks, 1, unknown), ("refused", 5, 5), repr(one))
+        same(written(4, tasks, 1, [(4, chain)]), ("ok", 4 * 18 + 12 + 4),
              "a fault past the count")
     # A number that is not above the one before is the later task's fault.
     tasks = list(good)
     tasks[4] = (50, 10, 1, 0)
-    same(written(32, tasks, 1, chain), ("refused", 5, 6), "the later task")
-    for position in range(1, 13):
-        numbers = list(chain)
-        numbers[position - 1] = 33
-        same(written(32, good, 12, numbers), ("refused", 6, position),
-             "unknown task")
-        if position < 12:
-            numbers[11] = 0
-            same(written(32, good, 12, numbers), ("refused", 6, position),
-                 "lowest chain position")
-        if position > 1:
-            same(written(32, good, position - 1, numbers),
-                 ("ok", 32 * 18 + 4 + 2 * (position - 1) + 4),
-                 "unknown task past the count")
+    same(written(32, tasks, 1, [(1, chain)]), ("refused", 5, 6),
+         "the later task")
+    # An unknown task at every position of every chain.
+    for which in range(1, 5):
+        for position in range(1, 13):
+            numbers = list(chain)
+            numbers[position - 1] = 33
+            chains = [(12, chain)] * 4
+            chains[which - 1] = (12, numbers)
+            for count in range(1, 5):
+                same(written(32, good, count, chains),
+                     ("refused", 6, position) if which <= count
+                     else ("ok", 32 * 18 + count * 28 + 4),
+                     "unknown task in chain %d of %d" % (which, count))
+            if which < 4:
+                # A later chain's lower position does not come first.
+                chains[which] = (12, [33] * 12)
+                same(written(32, good, 4, chains), ("refused", 6, position),
+                     "the lower chain")
+                chains[which] = (12, chain)
+            if position < 12:
+                lower = numbers[:11] + [0]
+                chains[which - 1] = (12, lower)
+                same(written(32, good, 4, chains), ("refused", 6, position),
+                     "lowest chain position")
+            if position > 1:
+                chains[which - 1] = (position - 1, numbers)
+                same(written(32, good, 4, chains),
+                     ("ok", 32 * 18 + 3 * 28 + 4 + 2 * (position - 1) + 4),
+                     "unknown task past the count")
     # A task past the count is unknown.
-    same(written(3, good, 4, chain), ("refused", 6, 4), "past the count")
+    same(written(3, good, 1, [(4, chain)]), ("refused", 6, 4),
+         "past the count")
+    same(written(3, good, 2, [(3, chain), (5, chain)]), ("refused", 6, 4),
+         "past the count, second chain")
+
+
+def listed_fault(task_count, tasks, chain_count, chains):
+    """The fault of a schedule: all are listed, the least rank decides."""
+    faults = []
+    if task_count not in range(1, 33) or chain_count not in range(1, 5):
+        faults.append((0, 0, 0, 8))
+    for which in range(min(chain_count, len(chains))):
+        if chains[which][0] not in range(1, 13):
+            faults.append((0, 0, 0, 8))
+    if not faults:
+        for index in range(task_count):
+            number, T, D, F = tasks[index]
+            if number not in range(1, 65_536) \
+                    or (index > 0 and tasks[index - 1][0] >= number) \
+                    or T not in range(1, 1_000_001) \
+                    or D not in range(1, 4_000_001) \
+                    or F not in range(0, 1_000_001):
+                faults.append((1, 0, index + 1, 5))
+        for which in range(chain_count):
+            for index in range(chains[which][0]):
+                if chains[which][1][index] not in [
+                        tasks[at][0] for at in range(task_count)]:
+                    faults.append((2, which, index + 1, 6))
+    if not faults:
+        return None
+    _rank, _chain, place, number = min(faults)
+    return ("refused", number, place)
+
+
+def faulty_schedule(rng):
+    """A schedule with some faults, or none, in the counted entries."""
+    tasks, chains = random_schedule(rng)
+    task_count, tasks, chain_count, chains = schedule(tasks, chains)
+    for _ in range(rng.choice([0, 1, 2, 3])):
+        change = rng.randrange(8)
+        which = rng.randrange(4)
+        places, numbers = chains[which]
+        if change == 0:
+            task_count = rng.choice([0, 33, task_count, 2 ** 64 - 1])
+        elif change == 1:
+            chain_count = rng.choice([0, 5, chain_count, 2 ** 64 - 1])
+        elif change == 2:
+            chains[which] = (rng.choice([0, 13, 2 ** 64 - 1]), numbers)
+        elif change < 5:
+            at = rng.randrange(min(max(task_count, 1), 32))
+            number, T, D, F = tasks[at]
+            tasks[at] = rng.choice([
+                (0, T, D, F), (number, 0, D, F), (number, T, 0, F),
+                (number, 1_000_001, D, F), (number, T, 4_000_001, F),
+                (number, T, D, 1_000_001), (65_535, T, D, F)])
+        else:
+            numbers = list(numbers)
+            numbers[rng.randrange(12)] = rng.choice([0, 65_535, 1])
+            chains[which] = (places, numbers)
+    return task_count, tasks, chain_count, chains
+
+
+def group_schedule_faults(rng):
+    """The same fault for writing and for every analysis."""
+    met = {}
+    for _ in range(3_000):
+        arguments = faulty_schedule(rng)
+        expected = listed_fault(*arguments)
+        number = expected[1] if expected else None
+        met[number] = met.get(number, 0) + 1
+        same(ref.schedule_fault(*arguments), expected, "fault")
+        if expected is None:
+            continue
+        same(ref.write_file(*arguments, b"xyz"), (expected, b"xyz"),
+             "writing")
+        n = rng.choice([0, 1, 2, 3, 4, 5, 2 ** 64 - 1])
+        m = rng.choice([0, 1, 2, 3, 4, 5, 2 ** 64 - 1])
+        same(ref.chain_of_schedule(*arguments, n), expected, "chain")
+        same(ref.warm_up_of(*arguments, n), expected, "warm-up")
+        same(ref.delay_of(*arguments, n, UPPER + 1), expected, "delay")
+        same(ref.age_of(*arguments, n, UPPER + 1), expected, "age")
+        same(ref.make_of(*arguments, n, 0, [1], [2, 3]),
+             (expected, [1], [2, 3]), "make")
+        same(ref.windows_of(*arguments, n, 0, 0), expected, "windows")
+        same(ref.bookings_of(*arguments, n, m, UPPER + 1), expected,
+             "bookings")
+    same(set(met), {None, 5, 6, 8}, "every fault was met")
+    same(min(met.values()) > 100, True, "each fault often")
+
+
+# ---------------------------------------------------------------------------
+# Analyses from a schedule
+# ---------------------------------------------------------------------------
+
+def schedule_of_chains(rng, chains):
+    """Tasks and chains of numbers for given chains of (T, D, F).
+
+    Equal tasks of the chains share one number or have several.  Some
+    tasks are in no chain.  Tasks stand in a random order.
+    """
+    places = [task for chain in chains for task in chain]
+    distinct = sorted(set(places))
+    entries = distinct + [task for task in distinct if rng.random() < 0.2]
+    entries += [(1, 1, 0)] * rng.randint(0, 2)
+    entries = entries[:max(len(distinct), 32)]
+    rng.shuffle(entries)
+    numbers = sorted(rng.sample(range(1, 65_536), len(entries)))
+    tasks = [(number, *task) for number, task in zip(numbers, entries)]
+    return tasks, [[rng.choice([one[0] for one in tasks if one[1:] == task])
+                    for task in chain] for chain in chains]
+
+
+def group_schedule_analyses(rng):
+    for turn in range(140):
+        chains = [small_chain(rng, 40) for _ in range(1 + turn % 4)]
+        arguments = schedule(*schedule_of_chains(rng, chains))
+        for n in list(range(len(chains) + 2)) + [5, 2 ** 64 - 1]:
+            what = "chain %d of %r" % (n, chains)
+            k = rng.choice([0, 1, 2, 5, 101])
+            B = rng.randint(0, 60)
+            t = rng.choice([0, rng.randint(0, 200), UPPER, UPPER + 1])
+            if not 1 <= n <= len(chains):
+                refusal = ("refused", 16, 0)
+                same(ref.chain_of_schedule(*arguments, n), refusal, what)
+                same(ref.warm_up_of(*arguments, n), refusal, what)
+                same(ref.delay_of(*arguments, n, t), refusal, what)
+                same(ref.age_of(*arguments, n, t), refusal, what)
+                same(ref.make_of(*arguments, n, 0, [1], [2, 3]),
+                     (refusal, [1], [2, 3]), what)
+                same(ref.windows_of(*arguments, n, B, k), refusal, what)
+                for m in range(len(chains) + 2):
+                    same(ref.bookings_of(*arguments, n, m, t), refusal, what)
+                    same(ref.bookings_of(*arguments, m, n, t), refusal, what)
+                continue
+            tasks = chains[n - 1]
+            same(ref.chain_of_schedule(*arguments, n), ("ok", tasks), what)
+            # Literal walks, without the schedule.
+            way = literal_warm_up(tasks)
+            x0 = tasks[0][2] + way[0] * tasks[0][0]
+            z0 = tasks[-1][2] + way[-1] * tasks[-1][0] + tasks[-1][1]
+            H = literal_hyperperiod(tasks)
+            same(ref.warm_up_of(*arguments, n), ("ok", way, x0, H), what)
+            delays = [literal_delay(tasks, x0 + offset)
+                      for offset in range(H)]
+            same([ref.delay_of(*arguments, n, x0 + offset)
+                  for offset in range(H)], [("ok", one) for one in delays],
+                 what)
+            same([ref.age_of(*arguments, n, z0 + offset)
+                  for offset in range(H)],
+                 [("ok", literal_age(tasks, z0 + offset))
+                  for offset in range(H)], what)
+            # Table and walk agree chain by chain.
+            p = rng.randint(1, len(tasks))
+            found = anchors_from_delays(delays, x0)
+            g = len(found)
+            made, starts, latencies = ref.make_of(*arguments, n, p,
+                                                  [5] * (g + 1), [6] * (g + 1))
+            same(made, ("ok", g, x0, H, H // tasks[p - 1][0]), what)
+            same(list(zip(starts, latencies)), found + [(5, 6)], what)
+            same([ref.read_table(starts, latencies, g, H, x0 + offset)
+                  for offset in range(2 * H)],
+                 [("ok", one) for one in delays * 2], what)
+            # Every call's own refusals follow.
+            same(ref.delay_of(*arguments, n, t), ref.delay(tasks, t), what)
+            same(ref.age_of(*arguments, n, t), ref.age(tasks, t), what)
+            for place in (0, p, len(tasks) + 1):
+                for lists in (([1], [2, 3]), ([1], [2]), ([], [])):
+                    same(ref.make_of(*arguments, n, place, *lists),
+                         ref.make(tasks, place, *lists), what)
+            same(ref.windows_of(*arguments, n, B, k),
+                 ref.windows(tasks, B, k), what)
+    # A chain of 7 beside a good one: each number has its own answer.
+    tasks = [(1, 999_983, 1, 0), (2, 999_979, 1, 0), (9, 10, 3, 5)]
+    for turn in itertools.permutations([[1, 2], [9], [9, 9]]):
+        arguments = schedule(tasks, list(turn))
+        for n, numbers in enumerate(turn, start=1):
+            same(ref.warm_up_of(*arguments, n)[:2],
+                 ("refused", 7) if numbers == [1, 2]
+                 else ("ok", list(range(len(numbers)))), "7 beside")
+        same(ref.warm_up_of(*arguments, 4), ("refused", 16, 0),
+             "16 before 7")
+
+
+# ---------------------------------------------------------------------------
+# Two chains
+# ---------------------------------------------------------------------------
+
+def literal_booking(tasks, t):
+    """The last write of the forward walk of a press at t."""
+    return literal_forward_end(tasks, literal_strictly_after(tasks[0], t))
+
+
+def small_pair(rng, largest_common, most_places=4):
+    """Two random chains with a small common hyperperiod."""
+    while True:
+        first = small_chain(rng, largest_common, most_places)
+        second = small_chain(rng, largest_common, most_places)
+        # Chains of one schedule may share tasks.
+        if rng.random() < 0.3:
+            second[rng.randrange(len(second))] = rng.choice(first)
+        if literal_hyperperiod(first + second) <= largest_common:
+            return first, second
+
+
+def differences_of_tables(first, second, later_warm_up, common):
+    """The differences at every tick, from tables and without a walk."""
+    rows = []
+    for tasks in (first, second):
+        H = math.lcm(*[T for T, _D, _F in tasks])
+        p = ref.longest_period_place(tasks)
+        slots = [0] * H
+        _answer, starts, latencies = ref.make(tasks, p, slots, slots)
+        delays = ref.delays_of_hyperperiod(starts, latencies, _answer[1], H)
+        rows.append((starts[0], delays, H))
+    (a0, a, Ha), (b0, b, Hb) = rows
+    return [abs(a[(t - a0) % Ha] - b[(t - b0) % Hb])
+            for t in range(later_warm_up, later_warm_up + common)]
+
+
+def group_pairs_by_hand(_rng):
+    A = CHAIN_A
+    B = [(10, 3, 5)]
+    C = [(5, 5, 0), (5, 5, 0)]
+    D = [(10, 2, 0), (10, 1, 95)]
+    # A books 18 from 0, 24 from 8, 30 from 12, and so on.  C books
+    # 5 k + 15 from 5 k.  At 24 they are 42 and 35.
+    for t, later, earlier in ((0, 18, 15), (4, 18, 15), (5, 20, 18),
+                              (8, 24, 20), (12, 30, 25), (15, 30, 30),
+                              (24, 42, 35), (55, 70, 66), (60, 78, 75)):
+        expected = ("ok", later, earlier, later - earlier, 7)
+        same(ref.bookings(A, C, t), expected, "A and C at %d" % t)
+        same(ref.bookings(C, A, t), expected, "C and A at %d" % t)
+    # Before D's warm-up D books 96, far from B.  This is not counted.
+    same(ref.bookings(B, D, 90), ("ok", 106, 98, 8, 8), "B and D at 90")
+    same(ref.bookings(B, D, 95), ("ok", 108, 106, 2, 8), "B and D at 95")
+    for t in (0, 5, 89):
+        same(ref.bookings(B, D, t), ("refused", 12, 0), "B and D too early")
+        same(ref.bookings(D, B, t), ("refused", 12, 0), "D and B too early")
+    for tasks in (A, B, C, D):
+        x0 = ref.warm_up(tasks)[2]
+        end = x0 + ref.delay(tasks, x0)[1]
+        same(ref.bookings(tasks, tasks, x0), ("ok", end, end, 0, 0),
+             "a chain with itself")
+    # The upper tick leaves 40 by 60.  At 40 A books 54 and C books 55.
+    same(UPPER % 60, 40, "remainder")
+    same(ref.bookings(A, C, 40), ("ok", 55, 54, 1, 7), "A and C at 40")
+    same(ref.bookings(A, C, UPPER), ("ok", UPPER + 15, UPPER + 14, 1, 7),
+         "upper tick")
+
+
+def group_pairs_every_tick(rng):
+    equal_warm_ups = set()
+    for turn in range(220):
+        first, second = small_pair(rng, 30 if turn % 8 else 120,
+                                   4 if turn % 9 else 12)
+        what = "%r %r" % (first, second)
+        warm = [tasks[0][2] + literal_warm_up(tasks)[0] * tasks[0][0]
+                for tasks in (first, second)]
+        x = max(warm)
+        equal_warm_ups.add((warm[0] > warm[1]) - (warm[0] < warm[1]))
+        common = literal_hyperperiod(first + second)
+        # Every tick, walked literally.
+        one = [literal_booking(first, x + r) for r in range(2 * common)]
+        two = [literal_booking(second, x + r) for r in range(2 * common)]
+        differences = [abs(a - b) for a, b in zip(one, two)]
+        largest = max(differences[:common])
+        # The next hyperperiod has the same differences.
+        same(differences[common:], differences[:common], "repeats " + what)
+        for r in range(2 * common):
+            expected = ("ok", max(one[r], two[r]), min(one[r], two[r]),
+                        differences[r], largest)
+            same(ref.bookings(first, second, x + r), expected, what)
+        same(ref.bookings(second, first, x), ref.bookings(first, second, x),
+             "turned round " + what)
+        if x > 0:
+            same(ref.bookings(first, second, x - 1), ("refused", 12, 0),
+                 "too early " + what)
+        same(ref.bookings(first, second, UPPER + 1), ("refused", 13, 0),
+             "too late " + what)
+        # The segments, the tables, and the reads of the first places.
+        same(ref.greatest_difference_by_segments(first, second, x, common),
+             largest, "segments " + what)
+        same(differences_of_tables(first, second, x, common),
+             differences[:common], "tables " + what)
+        changes = {x} | {t for T, _D, F in (first[0], second[0])
+                         for t in range(F, x + common, T) if t >= x}
+        same(max(differences[t - x] for t in changes), largest,
+             "reads " + what)
+        # The next change, by looking tick by tick.
+        for tasks, row in ((first, one), (second, two)):
+            for r in range(0, common, 1 + common // 7):
+                after = next((q for q in range(r, len(row))
+                              if row[q] != row[r]), None)
+                if after is not None:
+                    same(ref.next_change(tasks, x + r), x + after,
+                         "next change " + what)
+        # Table and walk agree at any tick.
+        t = rng.randint(x, UPPER)
+        answer = ref.bookings(first, second, t)
+        same(answer[3], differences[(t - x) % common], "far tick " + what)
+        same({answer[1], answer[2]},
+             {t + ref.delay(first, t)[1], t + ref.delay(second, t)[1]},
+             "delays " + what)
+    same(equal_warm_ups, {-1, 0, 1}, "either warm-up is the later one")
+
+
+def group_pairs_large(rng):
+    # On both sides of the limit of the enumeration, every tick by tables.
+    for turn in range(24):
+        while True:
+            pool = rng.choice([(16, 81, 25), (7, 11, 13, 30), (3, 64, 125),
+                               (24, 40, 99, 7), (512, 81), (125, 9, 32),
+                               (16, 9, 125), (27, 16, 25)])
+            first, second = ([(rng.choice(pool), rng.randint(1, 60),
+                               rng.randint(0, 400))
+                              for _ in range(rng.randint(1, 3))]
+                             for _ in range(2))
+            common = math.lcm(*[T for T, _D, _F in first + second])
+            if (8_000 <= common <= 20_000) if turn < 4 \
+                    else (20_000 < common <= 60_000):
+                break
+        x = max(ref.warm_up(first)[2], ref.warm_up(second)[2])
+        largest = max(differences_of_tables(first, second, x, common))
+        same(ref.bookings(first, second, x)[4], largest,
+             "greatest of %r %r" % (first, second))
+        same(ref.greatest_difference_by_segments(first, second, x, common),
+             largest, "segments of %r %r" % (first, second))
+        if turn == 4:
+            same(ref.greatest_difference_by_ticks(first, second, x, common),
+                 largest, "ticks of %r %r" % (first, second))
+    # Full-range values: every start of every anchor of both chains.
+    done = 0
+    while done < 60:
+        first, second = large_chain(rng), large_chain(rng)
+        common = math.lcm(*[T for T, _D, _F in first + second])
+        if common > 60_000_000 or any(
+                common > 1_500 * max(T for T, _D, _F in tasks)
+                for tasks in (first, second)):
+            continue
+        done += 1
+        x = max(ref.warm_up(first)[2], ref.warm_up(second)[2])
+        ticks = {x}
+        for tasks in (first, second):
+            p = ref.longest_period_place(tasks)
+            H = math.lcm(*[T for T, _D, _F in tasks])
+            for start, _latency in ref.anchors(tasks, p):
+                t = start + H * ((x - start) // H)
+                ticks |= {one for one in range(t, x + common, H) if one >= x}
+        largest = max(abs(ref.walked_delay(first, t)
+                          - ref.walked_delay(second, t)) for t in ticks)
+        what = "%r %r" % (first, second)
+        same(ref.greatest_difference_by_segments(first, second, x, common),
+             largest, "anchors of " + what)
+        t = rng.choice([x, UPPER, rng.randint(x, UPPER)])
+        ends = [t + ref.delay(tasks, t)[1] for tasks in (first, second)]
+        same(ref.bookings(first, second, t),
+             ("ok", max(ends), min(ends), max(ends) - min(ends), largest),
+             what)
+        for _ in range(20):
+            t = rng.randint(x, x + 2 * common)
+            same(ref.bookings(first, second, t)[3] <= largest, True, what)
+    # A period of one tick beside the longest: few segments.
+    fast = [(1, 1, 0)]
+    slow = [(1_000_000, 1, 0), (768, 1, 0), (5 ** 7, 1, 0)]
+    x = ref.warm_up(slow)[2]
+    answer = ref.bookings(fast, slow, x)
+    same(answer[:2], ("ok", x + ref.delay(slow, x)[1]), "at the limit")
+    p = ref.longest_period_place(slow)
+    # A press at t books t + 2 by the fast chain.
+    same(answer[4], max(latency for _start, latency
+                        in ref.anchors(slow, p)) - 2, "at the limit")
+    # The largest values: 49,000,000 by hand, beside one tick.
+    worst = [(1_000_000, 4_000_000, 1_000_000)] * 12
+    same(ref.bookings(worst, fast, 1_000_000),
+         ("ok", 50_000_000, 1_000_002, 48_999_998, 48_999_998),
+         "largest values")
+
+
+def group_pair_refusals(rng):
+    good = [(10, 1, 0)]
+    late = [(10, 2, 0), (10, 1, 95)]
+    huge = [(999_983, 1, 0), (999_979, 1, 0)]
+    none = []
+    many = [(0, 0, 0)] * 13
+    bad = [(10, 1, 0), (10, 0, 0), (0, 1, 0)]
+    worse = [(10, 1, 1_000_001)]
+    own = [(good, None), (late, None), (huge, ("refused", 7, 0)),
+           (none, ("refused", 8, 0)), (many, ("refused", 8, 0)),
+           (bad, ("refused", 5, 2)), (worse, ("refused", 5, 1))]
+    # The first chain's own checks, then the second's own.
+    for (first, refusal), (second, other) in itertools.product(own, own):
+        for t in (0, 90, UPPER + 1):
+            if refusal is not None:
+                expected = refusal
+            elif other is not None:
+                expected = other
+            elif t == 0 and late in (first, second):
+                expected = ("refused", 12, 0)
+            elif t > UPPER:
+                expected = ("refused", 13, 0)
+            else:
+                expected = None
+            found = ref.bookings(first, second, t)
+            same(found if found[0] == "refused" else None, expected,
+                 "own checks %r %r %d" % (first, second, t))
+    # 7 for the common hyperperiod, before 12 and 13.
+    pairs = [([(999_983, 1, 0)], [(999_979, 1, 0)]),
+             ([(151, 1, 0)], [(397_351, 1, 0)]),
+             ([(151, 1, 500), (151, 1, 0)], [(397_351, 1, 900)])]
+    for first, second in pairs:
+        for t in (0, 1_000_000, UPPER, UPPER + 1):
+            for one, two in ((first, second), (second, first)):
+                same(ref.bookings(one, two, t), ("refused", 7, 0),
+                     "common hyperperiod")
+    for first, second in (([(1_000_000, 1, 0)], [(768, 1, 0)]),
+                          ([(768, 1, 0)], [(1_000_000, 1, 0)])):
+        same(math.lcm(first[0][0], second[0][0], 5 ** 7) <= 60_000_000,
+             True, "common hyperperiod within")
+        same(ref.bookings(first, second, 0)[0], "ok", "within")
+    same(ref.bookings([(1_000_000, 1, 0), (768, 1, 0)], [(5 ** 7, 1, 0)],
+                      2_000_000)[0], "ok", "60,000,000 passes")
+    # Ticks: either chain may be the late one.
+    for first, second in ((good, late), (late, good), (late, late)):
+        same(ref.bookings(first, second, 89), ("refused", 12, 0), "89")
+        same(ref.bookings(first, second, 90)[0], "ok", "90")
+        same(ref.bookings(first, second, UPPER)[0], "ok", "upper tick")
+        same(ref.bookings(first, second, UPPER + 1), ("refused", 13, 0),
+             "above the upper tick")
+    # From a schedule: 8, 5, 6, 16, own, common, 12, 13, one after another.
+    # Task 3 is late; tasks 4 and 5 together are 7.
+    tasks = [(1, 10, 1, 0), (2, 10, 2, 0), (3, 10, 1, 95), (4, 999_983, 1, 0),
+             (5, 999_979, 1, 0)]
+    numbers = (0, 1, 2, 3, 4, 5, 2 ** 64 - 1)
+    for chains in ([[1], [2, 3], [4, 5], [4]], [[1], [2, 3], [4], [5]]):
+        arguments = schedule(tasks, chains)
+        for first, second in itertools.product(numbers, numbers):
+            for t in (0, 89, 90, UPPER, UPPER + 1):
+                if first not in range(1, 5) or second not in range(1, 5):
+                    expected = ("refused", 16, 0)
+                else:
+                    met = set(chains[first - 1] + chains[second - 1])
+                    if {4, 5} <= met:
+                        expected = ("refused", 7, 0)
+                    elif 3 in met and t < 90:
+                        expected = ("refused", 12, 0)
+                    elif t > UPPER:
+                        expected = ("refused", 13, 0)
+                    else:
+                        expected = None
+                found = ref.bookings_of(*arguments, first, second, t)
+                same(found if found[0] == "refused" else None, expected,
+                     "numbers %d and %d at %d" % (first, second, t))
+    arguments = schedule(tasks, [[1], [2, 3], [4, 5], [4]])
+    faults = [(("refused", 8, 0), (0, *arguments[1:])),
+              (("refused", 8, 0), (*arguments[:2], 5, arguments[3])),
+              (("refused", 8, 0), (*arguments[:3],
+                                   arguments[3][:3] + [(0, [1] * 12)])),
+              (("refused", 5, 4), schedule(tasks[:3] + [(3, 0, 1, 0)],
+                                           [[9]])),
+              (("refused", 6, 2), schedule(tasks, [[1], [2, 9], [9]]))]
+    for expected, faulty in faults:
+        for first, second in ((1, 2), (0, 9), (1, 1), (9, 1)):
+            for t in (0, UPPER + 1):
+                same(ref.bookings_of(*faulty, first, second, t), expected,
+                     "the schedule first")
+    # Random schedules: numbers against lists, equal numbers too.
+    for turn in range(60):
+        while True:
+            chosen = [small_chain(rng, 12, 3) for _ in range(1 + turn % 4)]
+            if literal_hyperperiod([task for chain in chosen
+                                    for task in chain]) <= 120:
+                break
+        arguments = schedule(*schedule_of_chains(rng, chosen))
+        for first in range(1, len(chosen) + 1):
+            for second in range(1, len(chosen) + 1):
+                one, two = chosen[first - 1], chosen[second - 1]
+                t = rng.randint(0, 200)
+                answer = ref.bookings_of(*arguments, first, second, t)
+                same(answer, ref.bookings(one, two, t), "numbers and lists")
+                if answer[0] == "ok":
+                    ends = [literal_booking(one, t), literal_booking(two, t)]
+                    same(answer[1:4], (max(ends), min(ends),
+                                       abs(ends[0] - ends[1])), "literal")
+                if first == second and answer[0] == "ok":
+                    same(answer[3:], (0, 0), "equal numbers")
 
 
 # ---------------------------------------------------------------------------
 # Report
 # ---------------------------------------------------------------------------
 
+def literal_report(tasks):
+    """The lines of one chain, built from literal walks."""
+    way = literal_warm_up(tasks)
+    x0 = tasks[0][2] + way[0] * tasks[0][0]
+    H = literal_hyperperiod(tasks)
+    delays = [literal_delay(tasks, x0 + offset) for offset in range(H)]
+    found = anchors_from_delays(delays, x0)
+    text = "warm %d\nhyper %d\nanchors %d\n" % (x0, H, len(found))
+    text += "".join("a %d %d\n" % anchor for anchor in found)
+    text += "max %d\nlow %d\nmean %d %d\n" % (
+        max(delays), min(delays) - 1, sum(delays), H)
+    text += "walked %d\n" % (H // max(T for T, _D, _F in tasks))
+    return text
+
+
 def group_report(rng):
-    for _ in range(120):
-        tasks = small_chain(rng, 120)
-        numbers = sorted(rng.sample(range(1, 65_536), len(tasks)))
-        file = b"".join(task_record(number, *task)
-                        for number, task in zip(numbers, tasks))
-        file += chain_record(numbers) + END
-        # The report is built again from literal walks.
-        way = literal_warm_up(tasks)
-        x0 = tasks[0][2] + way[0] * tasks[0][0]
-        H = literal_hyperperiod(tasks)
-        delays = [literal_delay(tasks, x0 + offset) for offset in range(H)]
-        found = anchors_from_delays(delays, x0)
-        text = "warm %d\nhyper %d\nanchors %d\n" % (x0, H, len(found))
-        text += "".join("a %d %d\n" % anchor for anchor in found)
-        text += "max %d\nlow %d\nmean %d %d\n" % (
-            max(delays), min(delays) - 1, sum(delays), H)
-        text += "walked %d\n" % (H // max(T for T, _D, _F in tasks))
-        same(ref.report(file), text.encode(), "report %r" % (tasks,))
+    for turn in range(160):
+        chains = [small_chain(rng, 120 if turn % 4 == 0 else 40)
+                  for _ in range(1 + turn % 4)]
+        tasks, numbers = schedule_of_chains(rng, chains)
+        file = b"".join(task_record(*task) for task in tasks)
+        file += b"".join(map(chain_record, numbers)) + END
+        text = ""
+        for n, chain in enumerate(chains, start=1):
+            text += "chain %d\n%s" % (n, literal_report(chain))
+        same(ref.report(file), text.encode(), "report %r" % (chains,))
     # Chains that are read but refused by making.
     file = task_record(1, 999_983, 1, 0) + task_record(2, 999_979, 1, 0) \
         + chain_record([1, 2]) + END
-    same(ref.report(file), b"refused 7 0\n", "report of 7")
+    same(ref.report(file), b"chain 1\nrefused 7 0\n", "report of 7")
     # Periods 1,024 and 1,025 have no common divisor: g is H / 1,025.
     file = task_record(1, 1_024, 1, 0) + task_record(2, 1_025, 1, 0) \
         + chain_record([1, 2]) + END
-    same(ref.report(file).splitlines()[2], b"anchors 1024", "1,024 slots")
+    full = ref.report(file).splitlines()
+    same(full[0], b"chain 1", "1,024 slots")
+    same(full[3], b"anchors 1024", "1,024 slots")
     file = task_record(1, 1_025, 1, 0) + task_record(2, 1_026, 1, 0) \
         + chain_record([1, 2]) + END
-    same(ref.report(file), b"refused 11 0\n", "1,025 anchors")
+    same(ref.report(file), b"chain 1\nrefused 11 0\n", "1,025 anchors")
+    # The slots are for each chain: two full tables, one after the other.
+    file = task_record(1, 1_024, 1, 0) + task_record(2, 1_025, 1, 0) \
+        + chain_record([1, 2]) * 2 + END
+    same(ref.report(file).splitlines(),
+         full + [b"chain 2"] + full[1:], "1,024 slots for each chain")
+    # Refused chains first, in the middle, last, and in every turn.
+    tasks = [(1, 10, 3, 5), (2, 999_983, 1, 0), (3, 999_979, 1, 0),
+             (4, 1_025, 1, 0), (5, 1_026, 1, 0)]
+    kinds = [([1], literal_report([(10, 3, 5)])),
+             ([1, 1], literal_report([(10, 3, 5)] * 2)),
+             ([2, 3], "refused 7 0\n"), ([4, 5], "refused 11 0\n")]
+    rows = [row for count in (1, 2) for row
+            in itertools.product(kinds, repeat=count)]
+    rows += list(itertools.product(kinds[:3], repeat=3))
+    rows += list(itertools.permutations(kinds))
+    rows += [[kinds[2]] * 4]
+    for row in rows:
+        file = b"".join(task_record(*task) for task in tasks)
+        file += b"".join(chain_record(numbers) for numbers, _text in row)
+        text = "".join("chain %d\n%s" % (n, lines) for n, (_numbers, lines)
+                       in enumerate(row, start=1))
+        same(ref.report(file + END), text.encode(), "refused chains")
+        # A refused file has its one line alone.
+        same(ref.report(file), b"refused 1 %d\n" % len(file),
+             "refused file of %d chains" % len(row))
+        same(ref.report(file + END + b"x"),
+             b"refused 4 %d\n" % (len(file) + 4), "byte after end")
+        if len(row) == 4:
+            same(ref.report(file + chain_record([1]) + END),
+                 b"refused 4 %d\n" % len(file), "fifth chain")
     # The text does not show the place among equals, so it is compared.
     same(ref.longest_period_place([(4, 1, 0), (6, 1, 0), (6, 2, 0)]), 2,
          "lowest place among equals")
@@ -1162,6 +1819,13 @@ GROUPS = [
     ("full-range values", group_full_range),
     ("bounds", group_bounds),
     ("corners of anchors", group_anchor_corners),
+    ("turns of records in a file", group_file_turns),
+    ("faults of a schedule", group_schedule_faults),
+    ("analyses by chain number", group_schedule_analyses),
+    ("two chains by hand", group_pairs_by_hand),
+    ("two chains at every tick", group_pairs_every_tick),
+    ("two chains, large values", group_pairs_large),
+    ("refusals of two chains", group_pair_refusals),
 ]
 
 
