@@ -3,8 +3,8 @@
     python3 examples/make.py
 
 A description has a line `task NUMBER PERIOD DURATION PHASE` for each task, in rising order of numbers and with times in microseconds,
-and a line `chain NUMBER NUMBER ..`. Lines that begin with `#` are remarks. What stands after the line `report` is what
-chainreport prints for the file.
+then a line `chain NUMBER NUMBER ..` for each of its one to four chains, which are numbered in this order. Lines that begin with `#` are
+remarks. What stands after the line `report` is what chainreport prints for the file.
 """
 import glob
 import os

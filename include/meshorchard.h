@@ -17,9 +17,10 @@
  *   libcapi_maker.a     mo_make_table
  *   libcapi_windows.a   mo_windows
  *   libcapi_file.a      mo_read_file, mo_write_file, mo_chain_of_schedule
+ *   libcapi_bookings.a  mo_bookings
  *   libcapi_report.a    mo_report
- * libcapi_windows.a, libcapi_file.a and libcapi_report.a need memcpy and memset from the C library; the other four need nothing
- * (`nm -u` on an archive tells; tests/c/run looks).
+ * libcapi_windows.a, libcapi_file.a, libcapi_bookings.a and libcapi_report.a need memcpy and memset from the C library; the other four need
+ * nothing (`nm -u` on an archive tells; tests/c/run looks).
  *
  * The archives are for x86-64, in position-independent code that uses its SSE2 registers. The toolchain compiles for no other processor
  * today: the proofs say nothing of a processor, and the back end that turns proved code into machine code has this one target. On an
@@ -31,8 +32,10 @@
  * mo_make_table walks h / T partitions, T being the period at the place of the cut, and a partition costs each place once: with h 60,000,000
  * and twelve places 0.04 ms where the longest period, 78,125, is cut at, and 2.8 s at a place of period 1. Cut at the longest period no
  * chain has more than 3,063,060 partitions. mo_windows walks h / T chains, T being the first place's period: 0.04 ms to 2.7 s for these
- * chains. mo_report makes one table, cut at the longest period: at most 0.2 s. (One run on a server's processor; an instrument's takes
- * longer.) Nothing else that is lent makes a call take long.
+ * chains. mo_report makes one table for each chain, cut at the longest period: at most 0.2 s a chain. mo_bookings goes once through the
+ * common hyperperiod, from one change of a booking to the next, and a change costs each place of its chain twice: 0.5 s for one place of
+ * period 1 beside 768 and 78,125, and at the worst, twelve places of period 1 beside 16, 9, 5, 7, 11, 23 and 47, 10 s. (One run on a
+ * server's processor; an instrument's takes longer.) Nothing else that is lent makes a call take long.
  *
  * Stack. What each call needs below its caller's frame, in bytes, is MO_STACK_ below: measured on x86-64 and rounded up, not proved. The C
  * library's memcpy and memset are in it, but not the dynamic linker, which a program that binds them at their first call runs there. To
@@ -56,22 +59,23 @@ extern "C" {
 #define MO_STACK_READ_TABLE 128u
 #define MO_STACK_FIGURES 128u /* each of mo_greatest, mo_low, mo_mean, mo_throughput and mo_exceedance */
 #define MO_STACK_WINDOWS 1856u
-#define MO_STACK_READ_FILE 2432u
-#define MO_STACK_WRITE_FILE 5184u
-#define MO_STACK_CHAIN_OF_SCHEDULE 3136u
-#define MO_STACK_REPORT 19584u
+#define MO_STACK_READ_FILE 3136u
+#define MO_STACK_WRITE_FILE 5248u
+#define MO_STACK_CHAIN_OF_SCHEDULE 5568u
+#define MO_STACK_BOOKINGS 8448u
+#define MO_STACK_REPORT 22848u
 
 /*
- * Refusals: the numbers of document 01.
+ * Refusals: the numbers of document 01, and 16 of order 1 in document 02.
  */
 #define MO_FILE_ENDS_EARLY 1u          /* reading a file: fewer than 4 bytes remain, or a record runs past the file */
 #define MO_RECORD_LENGTH_WRONG 2u      /* reading a file: a length below 4, or one that its kind does not have */
 #define MO_RECORD_KIND_UNKNOWN 3u      /* reading a file: the kind is not 1, 2 or 3 */
 #define MO_RECORD_OUT_OF_TURN 4u       /* reading a file: a record that may not stand there, or a byte after the end */
-#define MO_TASK_OUTSIDE_LIMITS 5u      /* a task's period, duration or phase; in a file or a schedule being written also its number */
-#define MO_TASK_UNKNOWN 6u             /* a file or a schedule being written: the chain has a number that no task has */
-#define MO_HYPERPERIOD_TOO_LONG 7u     /* above 60,000,000 */
-#define MO_PLACES_OUTSIDE_LIMITS 8u    /* places not 1 to 12, or tasks of a schedule not 1 to 32, or a list does not hold them */
+#define MO_TASK_OUTSIDE_LIMITS 5u      /* a task's period, duration or phase; in a file or a schedule also its number */
+#define MO_TASK_UNKNOWN 6u             /* a file or a schedule: a chain has a number that no task has */
+#define MO_HYPERPERIOD_TOO_LONG 7u     /* above 60,000,000: that of a chain, or the common one of two */
+#define MO_PLACES_OUTSIDE_LIMITS 8u    /* places not 1 to 12, a schedule's tasks not 1 to 32 or chains not 1 to 4, or a list does not hold them */
 #define MO_CUT_OUTSIDE_PLACES 9u       /* making: the place of the cut is not one of the chain */
 #define MO_LISTS_UNEQUAL 10u           /* making: the two lists have different lengths */
 #define MO_LISTS_TOO_SHORT 11u         /* making: shorter than the number of anchors; writing a file: the bytes are fewer than the file's */
@@ -79,13 +83,13 @@ extern "C" {
 #define MO_TICK_TOO_LATE 13u           /* above MO_UPPER_TICK */
 #define MO_TABLE_NOT_WELL_FORMED 14u
 #define MO_WINDOW_OUTSIDE_LIMITS 15u   /* windows: k is not 1 to 100 */
+#define MO_CHAIN_UNKNOWN 16u           /* a schedule: it has no chain of that number; they count from 1 */
 
 /*
- * Every call but mo_read_table, mo_chain_of_schedule and mo_report answers a code: 0 for a success, else a refusal's number and 256 times its place.
- * The place is
+ * Every call but mo_read_table and mo_report answers a code: 0 for a success, else a refusal's number and 256 times its place. The place is
  *   in every refusal of mo_read_file a byte offset, from 0;
- *   else, for MO_TASK_OUTSIDE_LIMITS, the task's place in the chain, of mo_write_file its position in the schedule, from 1;
- *   for MO_TASK_UNKNOWN of mo_write_file the place in the chain, from 1;
+ *   else, for MO_TASK_OUTSIDE_LIMITS, the task's place in the chain, and of a call on a schedule its position among the tasks, from 1;
+ *   for MO_TASK_UNKNOWN the place in its own chain, from 1, whichever chain that is;
  *   else 0.
  * Each number lent to the call is written: with what the call gives, and with 0 in a refusal (MO_LISTS_TOO_SHORT of mo_make_table gives
  * its numbers).
@@ -230,27 +234,48 @@ uint64_t mo_windows(const uint64_t *tasks, size_t tasks_length, size_t places, u
 
 /* ---- Schedules and their files ----
  *
- * A schedule is the list number, T, D, F, number, T, D, F, .. of its tasks with their count, and the list of the task numbers at its
- * chain's places with the number of places. It has 1 to 32 tasks and 1 to 12 places. Task numbers are 1 to 65,535 and rise strictly from
- * task to task, gaps allowed. A task may fill several places, or none. Entries past a count are no part of a schedule: mo_read_file makes
- * them 0, the other calls do not look at them.
+ * A schedule has 1 to 32 tasks and 1 to 4 chains, each of 1 to 12 places. It is lent as three lists and two counts:
+ *   tasks    number, T, D, F, number, T, D, F, ..; count is the number of tasks;
+ *   chains   the task numbers at the places of each chain, twelve entries a chain: chain 1 from entry 0 on, chain 2 from entry 12 on;
+ *   places   the number of places of each chain; chain_count is the number of chains.
+ * Task numbers are 1 to 65,535 and rise strictly from task to task, gaps allowed. A task may fill several places, of one chain or of
+ * several, or none. Chains are numbered from 1, in their order. Entries past a count are no part of a schedule: mo_read_file makes them 0,
+ * the other calls do not look at them. A list need not be longer than that: for one chain of two places chains may have 2 entries and
+ * places 1.
+ *
+ * Each call on a schedule refuses, the first that applies:
+ *   MO_PLACES_OUTSIDE_LIMITS   count is not 1 to 32, chain_count not 1 to 4, the places of a chain not 1 to 12, or a list does not hold
+ *                              them: tasks_length is no multiple of 4 or below 4 * count, places_length is below chain_count, or
+ *                              chains_length is below 12 * (c - 1) + places[c - 1] for a chain c; at place 0;
+ *   MO_TASK_OUTSIDE_LIMITS     a task's number is 0, above 65,535 or not above the one before, or T is not 1 to 1,000,000, D not 1 to
+ *                              4,000,000 or F above 1,000,000, of a task that fills no place too; at the lowest such task's position
+ *                              among the tasks, from 1;
+ *   MO_TASK_UNKNOWN            a number of a chain, which may be any, is that of no counted task; of the first chain that has one at its
+ *                              lowest such place, from 1.
+ * So a fault anywhere in the schedule refuses every chain of it. The hyperperiod of a chain is no such fault: where that of one chain is too
+ * long, the others have their answers.
  *
  * A file holds one schedule, in records of length (2 bytes, the whole record), kind (2 bytes) and body, little-endian:
  *   kind 1, length 18               a task: its number (2 bytes), T, D, F (4 bytes each);
- *   kind 2, length 4 + 2 * places   the chain: the task number at each place (2 bytes each);
+ *   kind 2, length 4 + 2 * places   a chain: the task number at each place (2 bytes each);
  *   kind 3, length 4                the end;
- * first the tasks, then one chain, then the end, then nothing. The longest file has 608 bytes.
+ * first the tasks, then the chains, then the end, then nothing. The longest file has 692 bytes.
  *
- *     uint64_t tasks[128], chain[12], counts[2], flat[36];
- *     if (mo_read_file(bytes, n, tasks, chain, counts) == 0) {
- *         size_t places = mo_chain_of_schedule(tasks, 128, counts[0], chain, 12, counts[1], flat);
- *         .. mo_make_table(flat, 36, places, ..) ..
+ * From the bytes of a file to the table of chain 2, and to the bookings by chains 1 and 2 of a press at t:
+ *
+ *     uint64_t tasks[128], chains[48], places[4], counts[2], flat[36], n, figures[4], both[4];
+ *     if (mo_read_file(bytes, size, tasks, chains, places, counts) == 0) {
+ *         if (mo_chain_of_schedule(tasks, 128, counts[0], chains, 48, places, 4, counts[1], 2, flat, &n) == 0)
+ *             .. mo_make_table(flat, 36, n, p, starts, slots, latencies, slots, figures) ..
+ *         if (mo_bookings(tasks, 128, counts[0], chains, 48, places, 4, counts[1], 1, 2, t, both) == 0)
+ *             .. one chain has booked at both[1], the other at both[0], which is both[2] later ..
  *     }
  */
 
 /*
- * Reading a file: tasks becomes number, T, D, F of each task and chain the task numbers at the places, both with 0 past them, and counts
- * the number of tasks and the number of places. The bytes are not written.
+ * Reading a file: tasks becomes number, T, D, F of each task, chains the task numbers at the places of each chain, places the number of
+ * places of each chain, and counts the number of tasks and the number of chains; 0 stands in every entry past them. The bytes are not
+ * written.
  *
  * The file is judged record by record, and refused at the first record with a fault. The place is that record's offset, but for a byte
  * after the end, where it is that byte's. For one record, the first that applies:
@@ -259,54 +284,72 @@ uint64_t mo_windows(const uint64_t *tasks, size_t tasks_length, size_t places, u
  *   MO_FILE_ENDS_EARLY       its length runs past the file;
  *   MO_RECORD_KIND_UNKNOWN   its kind is not 1, 2 or 3;
  *   MO_RECORD_LENGTH_WRONG   its length is not one of its kind, as for a chain of 0 or 13 places;
- *   MO_RECORD_OUT_OF_TURN    a task after the chain, a 33rd task, a chain before the tasks or a second one, an end before the chain;
+ *   MO_RECORD_OUT_OF_TURN    a task after a chain, a 33rd task, a chain before the tasks or a fifth one, an end before a chain;
  *   MO_TASK_OUTSIDE_LIMITS   a task's number is 0 or not above the one before, or T is not 1 to 1,000,000, D not 1 to 4,000,000 or F
  *                            above 1,000,000;
  *   MO_TASK_UNKNOWN          the chain has a number that no task has;
  *   MO_RECORD_OUT_OF_TURN    at the byte after the end, whatever follows it.
- * A refusal leaves 0 in every entry of tasks, chain and counts.
+ * A refusal leaves 0 in every entry of tasks, chains, places and counts.
  */
 uint64_t mo_read_file(const uint8_t *bytes, size_t bytes_length,
-                      uint64_t tasks[128], uint64_t chain[12], uint64_t counts[2]);
+                      uint64_t tasks[128], uint64_t chains[48], uint64_t places[4], uint64_t counts[2]);
 
 /*
  * Writing a file: the first bytes of out become the schedule's file, and length the number of these bytes; the others keep their content.
- * count is the number of tasks. Read again, the file gives the same schedule; a file that was read and is written again is the same bytes.
+ * Read again, the file gives the same schedule; a file that was read and is written again is the same bytes.
  *
- * Refuses, the first that applies:
- *   MO_PLACES_OUTSIDE_LIMITS   count is not 1 to 32 or places not 1 to 12, or a list does not hold them: tasks_length is no multiple of 4
- *                              or below 4 * count, or chain_length is below places; at place 0;
- *   MO_TASK_OUTSIDE_LIMITS     a task's number is 0, above 65,535 or not above the one before, or T, D or F is outside its limits, as
- *                              for mo_read_file; at the lowest such task's position, from 1;
- *   MO_TASK_UNKNOWN            a number of the chain, which may be any, is that of no counted task; at the lowest such place, from 1;
- *   MO_LISTS_TOO_SHORT         out_length is below the file's length, 18 * count + 8 + 2 * places; at place 0.
+ * Refuses, after the schedule's own refusals:
+ *   MO_LISTS_TOO_SHORT   out_length is below the file's length, 18 * count + 4 * chain_count + 2 * (the places of all chains) + 4; at 0.
  * A refusal leaves every byte of out as it was, and 0 in length.
  */
 uint64_t mo_write_file(const uint64_t *tasks, size_t tasks_length, size_t count,
-                       const uint64_t *chain, size_t chain_length, size_t places,
+                       const uint64_t *chains, size_t chains_length,
+                       const uint64_t *places, size_t places_length, size_t chain_count,
                        uint8_t *out, size_t out_length, uint64_t *length);
 
 /*
- * The chain of a schedule, as the calls on chains take it: flat becomes T, D, F of the task at each place, with 0 past them. The answer is
- * no code but the number of places.
+ * One chain of a schedule, as the calls on chains take it; number counts from 1. flat becomes T, D, F of the task at each of its places, with
+ * 0 past them, and chain_places the number of places. Every analysis of the chain is then the call on chains that takes flat, 36 and
+ * chain_places; of the chain's own refusals only MO_HYPERPERIOD_TOO_LONG can still come.
  *
- * The call refuses nothing. Where it finds no chain, what it gives is refused by every call on chains that takes flat, 36 and the answer:
- *   a number that no counted task has, of the first 32, gives a task of zeros, which is MO_TASK_OUTSIDE_LIMITS;
- *   a list that does not hold the counted tasks, and so one whose tasks_length is no multiple of 4, counts as one of no tasks, so every
- *   place gets a task of zeros;
- *   where the list does not hold the counted places, flat is zeros and the answer 0, which is MO_PLACES_OUTSIDE_LIMITS;
- *   more than 12 places are answered as they are, with the tasks at the first twelve: MO_PLACES_OUTSIDE_LIMITS.
- * That is proved. The call looks for no other fault of a schedule: of several tasks with one number the first is taken, numbers that do
- * not rise or are above 65,535 are taken as they are, the values of a task that fills no place are not looked at, nor are tasks after the
- * 32nd. mo_write_file refuses all these faults.
+ * Refuses, after the schedule's own refusals:
+ *   MO_CHAIN_UNKNOWN   number is 0 or above chain_count; at place 0.
+ * A refusal leaves 0 in every entry of flat and in chain_places; every call on chains that takes them then refuses with
+ * MO_PLACES_OUTSIDE_LIMITS.
  */
 uint64_t mo_chain_of_schedule(const uint64_t *tasks, size_t tasks_length, size_t count,
-                              const uint64_t *chain, size_t chain_length, size_t places, uint64_t flat[36]);
+                              const uint64_t *chains, size_t chains_length,
+                              const uint64_t *places, size_t places_length, size_t chain_count,
+                              size_t number, uint64_t flat[36], uint64_t *chain_places);
 
 /*
- * The report of a schedule file: the chain's table, made with 1,024 slots and cut at the longest period, and its figures, as lines of text
- * that end in LF,
+ * Two chains of a schedule side by side: when a press at tick t is booked by chain first and by chain second, numbers that may be equal. A
+ * booking is the last write of the forward walk, so t and the delay that mo_delay gives for that chain; it may lie above MO_UPPER_TICK.
+ * figures becomes
+ *   figures[0]   the later booking;
+ *   figures[1]   the earlier booking;
+ *   figures[2]   their difference;
+ *   figures[3]   the greatest such difference at the ticks of one common hyperperiod from the later of the two warm-up ticks on. The
+ *                differences repeat from there on, so no later press has a greater one. It does not depend on t.
+ * The common hyperperiod is the least common multiple of those of the two chains.
  *
+ * Refuses, after the schedule's own refusals, the first that applies, all at place 0:
+ *   MO_CHAIN_UNKNOWN          first or second is 0 or above chain_count;
+ *   MO_HYPERPERIOD_TOO_LONG   the hyperperiod of either chain, or the common one, is above 60,000,000;
+ *   MO_TICK_TOO_EARLY         t is below the warm-up tick of either chain;
+ *   MO_TICK_TOO_LATE          t is above MO_UPPER_TICK.
+ * A refusal leaves 0 in every entry of figures.
+ */
+uint64_t mo_bookings(const uint64_t *tasks, size_t tasks_length, size_t count,
+                     const uint64_t *chains, size_t chains_length,
+                     const uint64_t *places, size_t places_length, size_t chain_count,
+                     size_t first, size_t second, uint64_t t, uint64_t figures[4]);
+
+/*
+ * The report of a schedule file: of each chain in turn a line with its number, then its table, made with 1,024 slots and cut at the longest
+ * period, and the table's figures, as lines of text that end in LF,
+ *
+ *     chain 1
  *     warm 0
  *     hyper 12
  *     anchors 2
@@ -317,15 +360,16 @@ uint64_t mo_chain_of_schedule(const uint64_t *tasks, size_t tasks_length, size_t
  *     mean 174 12
  *     walked 2
  *
- * or the one line "refused N P", N being the refusal's number and P its place: what mo_read_file refuses the bytes with, or else
- * MO_HYPERPERIOD_TOO_LONG, or MO_LISTS_TOO_SHORT where there are more than 1,024 anchors, both at 0.
+ * A chain without a table has the one line "refused 7 0" after its number where its hyperperiod is too long (MO_HYPERPERIOD_TOO_LONG), and
+ * "refused 11 0" where it has more than 1,024 anchors (MO_LISTS_TOO_SHORT); the next chain follows all the same. The report of bytes that
+ * mo_read_file refuses is the one line "refused N P", N being the refusal's number and P its place, without a line of a chain.
  *
  * All the bytes lent are judged as one file. The program chainreport prints this report of the first 4,096 bytes of its input.
  *
  * The answer is no code but the length of the text, at most MO_LONGEST_REPORT. The first bytes of out become the text, as many of them as
  * there are; the others keep their content. The bytes of the file are not written.
  */
-#define MO_LONGEST_REPORT 23000u
+#define MO_LONGEST_REPORT 92000u
 uint64_t mo_report(const uint8_t *bytes, size_t bytes_length, uint8_t *out, size_t out_length);
 
 #ifdef __cplusplus

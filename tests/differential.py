@@ -7,6 +7,7 @@ disagreement is printed with its input.
 """
 import argparse
 import collections
+import itertools
 import math
 import multiprocessing
 import os
@@ -245,41 +246,86 @@ def damaged_tables(ours, r, factor, compare):
 
 # ---- Schedules and their files
 
+def told(schedule):
+    """What lent lists and counts say, as the header has it: the arguments of the reference's calls on a schedule. A list that does not hold what its
+    count says holds nothing."""
+    tasks, chains, places = (numbers[:length] for numbers, length in zip((schedule.tasks, schedule.chains, schedule.places), schedule.lengths))
+    count = schedule.count if len(tasks) % 4 == 0 and schedule.count <= len(tasks) // 4 else 0
+    chain_count = schedule.chain_count if schedule.chain_count <= len(places) else 0
+    rows = []
+    for c in range(chain_count):
+        start, n = library.CHAIN * c, places[c]
+        rows.append((n, chains[start:start + n]) if start + n <= len(chains) else (0, []))
+    return count, [tuple(tasks[i:i + 4]) for i in range(0, len(tasks), 4)], chain_count, rows
+
+
+def compare_choosing(ours, schedule, said, numbers, compare):
+    """Chains of a schedule by these numbers; `said` is what its lists say."""
+    for number in numbers:
+        theirs = reference.chain_of_schedule(*said, number)
+        compare.meet(theirs)
+        compare.same(ours.chain_of_schedule(schedule, number), theirs, "chain", schedule, number)
+
+
 def compare_reading(ours, data, compare, past=b""):
-    """One file: its schedule, or its refusal and the place. An accepted file is written again, as the same bytes, and its chain is had."""
+    """One file: its schedule, or its refusal and the place. Of an accepted file what reading left in the arrays is written again, as the same bytes, and a chain
+    is chosen from them."""
     mine, theirs = ours.read_file(data, past), reference.read_file(data)
     compare.meet(theirs)
     compare.same(mine, theirs, "reading", data)
     if mine[0] != "ok":
         return
-    _, tasks, chain = mine
-    numbers = inputs.flat(tasks)
+    _, tasks, chains, places, (count, chain_count) = ours.read_file_as_lent(data, past)
+    schedule = library.Schedule(tasks, count, chains, places, chain_count)
     # Just as many lent bytes, or more, which keep their content.
-    rest = b"rest" if len(chain) % 2 else b""
-    written = ours.write_file(numbers, len(tasks), chain, len(chain), bytes(len(data)) + rest)
+    rest = b"rest" if count % 2 else b""
+    written = ours.write_file(schedule, bytes(len(data)) + rest)
     compare.same(written, (("ok", len(data)), data + rest), "reading and writing", data)
-    compare.same(ours.chain_of_schedule(numbers, len(tasks), chain, len(chain)), reference.chain_of_schedule(tasks, chain), "chain", data)
+    # Each of the chains in turn, from file to file.
+    number = compare.met["ok"] % len(theirs[2]) + 1
+    found = reference.chain_of_schedule(len(theirs[1]), theirs[1], len(theirs[2]), [(len(chain), chain) for chain in theirs[2]], number)
+    compare.same(ours.chain_of_schedule(schedule, number), found, "chain", data, number)
 
 
 @group
 def files(ours, r, factor, compare):
-    """schedule files: every number of tasks and of places"""
+    """schedule files: every number of tasks, of chains and of places"""
     for count in range(1, inputs.MOST_TASKS + 1):
-        for places in range(1, inputs.MOST_PLACES + 1):
-            for _ in range(max(1, int(10 * factor))):
-                tasks, chain = inputs.schedule(r, count, places)
-                data = inputs.joined(inputs.records(tasks, chain))
-                compare.same(ours.read_file(data, r.choice([b"", data])), ("ok", tasks, chain), "reading", data)
-                compare_reading(ours, data, compare)
+        for chain_count in range(1, inputs.MOST_CHAINS + 1):
+            for places in range(1, inputs.MOST_PLACES + 1):
+                for _ in range(max(1, int(2 * factor))):
+                    sizes = inputs.some_sizes(r, chain_count)
+                    sizes[r.randrange(chain_count)] = places
+                    tasks, chains = inputs.schedule(r, count, sizes)
+                    data = inputs.joined(inputs.records(tasks, chains))
+                    compare.same(ours.read_file(data, r.choice([b"", data])), ("ok", tasks, chains), "reading", data)
+                    compare_reading(ours, data, compare)
     compare.same(sum(compare.met.values()), compare.met["ok"], "files that are accepted")
+
+
+@group
+def turns_of_records(ours, r, factor, compare):
+    """schedule files: tasks, chains and ends in every turn, up to eight records, so up to six chains; faults in each of one to six chains"""
+    for data in inputs.turns(r, 8):
+        compare_reading(ours, data, compare)
+    compare.must_meet("ok", 1, 4)
+    for chain_count in range(1, 7):
+        for _ in range(max(1, int(8 * factor))):
+            tasks, chains = inputs.schedule(r, r.choice([1, 2, 5, 32]), inputs.some_sizes(r, chain_count))
+            compare_reading(ours, inputs.joined(inputs.records(tasks, chains)), compare)
+            compare.must_meet("ok" if chain_count <= inputs.MOST_CHAINS else 4)
+            for c in range(chain_count):
+                for data in inputs.unknown_files(r, tasks, chains, c):
+                    compare_reading(ours, data, compare)
+        compare.must_meet(2, 6)
 
 
 @group
 def changed_bytes(ours, r, factor, compare):
     """schedule files: every other value of every byte"""
-    a = ([(1, 4, 4, 0), (2, 6, 6, 0)], [1, 2])
-    for tasks, chain in (inputs.schedule(r, 1, 1), a, inputs.schedule(r, 3, 4)):
-        data = inputs.joined(inputs.records(tasks, chain))
+    two = ([(1, 4, 4, 0), (2, 6, 6, 0), (3, 10, 3, 5)], [[1, 2], [3]])
+    for tasks, chains in (two, inputs.schedule(r, 1, [1, 2, 1, 1])):
+        data = inputs.joined(inputs.records(tasks, chains))
         for i, byte in enumerate(data):
             for other in range(256):
                 if other != byte:
@@ -291,8 +337,8 @@ def changed_bytes(ours, r, factor, compare):
 def cut_files(ours, r, factor, compare):
     """schedule files: cut at every length"""
     for i in range(max(1, int(12 * factor))):
-        tasks, chain = inputs.schedule(r, 32, 12) if i == 0 else inputs.any_schedule(r)
-        data = inputs.joined(inputs.records(tasks, chain))
+        tasks, chains = inputs.schedule(r, 32, [12] * 4) if i == 0 else inputs.any_schedule(r)
+        data = inputs.joined(inputs.records(tasks, chains))
         for n in range(len(data) + 1):
             # The rest lies in memory past the lent bytes: a call that looks there accepts the file.
             compare_reading(ours, data[:n], compare, data[n:])
@@ -303,12 +349,12 @@ def cut_files(ours, r, factor, compare):
 def damaged_records(ours, r, factor, compare):
     """schedule files: records doubled, dropped, swapped, inserted, with other lengths and kinds; bytes after the end"""
     for damaged, answers in inputs.RECORD_DAMAGES.items():
-        for count, places in ((1, 1), (2, 2), (3, 5), (31, 12), (32, 1)):
+        for count, sizes in ((1, [1]), (2, [2, 1]), (3, [5, 1, 2]), (31, [12]), (32, [1, 2, 3, 4])):
             if damaged in (inputs.wrong_lengths, inputs.other_kinds, inputs.inserted) and count > 3:
                 # As many files for each record, so of a long file a beginning and an end of few records.
                 count = 4
-            tasks, chain = inputs.schedule(r, count, places)
-            for data in damaged(r, inputs.records(tasks, chain)):
+            tasks, chains = inputs.schedule(r, count, sizes)
+            for data in damaged(r, inputs.records(tasks, chains)):
                 compare_reading(ours, data, compare)
         compare.must_meet(*answers)
 
@@ -317,13 +363,13 @@ def damaged_records(ours, r, factor, compare):
 def faulty_records(ours, r, factor, compare):
     """schedule files: values at and past their limits, unknown tasks, too many tasks, several faults in one record"""
     for count in (1, 2, 3, 8, 32):
-        tasks, chain = inputs.schedule(r, count, r.randint(1, 12))
-        for data in inputs.edge_files(r, tasks, chain):
+        tasks, chains = inputs.schedule(r, count, [r.randint(1, 12)])
+        for data in inputs.edge_files(r, tasks, chains):
             compare_reading(ours, data, compare)
     compare.must_meet("ok", 5)
     for places in range(1, inputs.MOST_PLACES + 1):
-        for _ in range(max(1, int(10 * factor))):
-            for data in inputs.unknown_files(r, *inputs.schedule(r, r.choice([1, 2, 5, 32]), places)):
+        for _ in range(max(1, int(5 * factor))):
+            for data in inputs.unknown_files(r, *inputs.schedule(r, r.choice([1, 2, 5, 32]), [places]), 0):
                 compare_reading(ours, data, compare)
     compare.must_meet(2, 6)
     for count in (33, 33, 33, 34, 40, 64, 200):
@@ -346,8 +392,8 @@ def random_files(ours, r, factor, compare):
     compare.must_meet("ok", 1, 3, 4, 5, 6)
 
 
-def file_length(count, places):
-    return 18 * count + 8 + 2 * places
+def file_length(count, sizes):
+    return 18 * count + 4 * len(sizes) + 2 * sum(sizes) + 4
 
 
 def lent_sizes(r, length):
@@ -355,107 +401,321 @@ def lent_sizes(r, length):
     return [length, length + 1, length + r.randint(2, 600), length - 1, 0, r.randint(0, length - 1)]
 
 
-def compare_writing(ours, r, tasks, count, chain, places, size, compare):
+def compare_writing(ours, r, schedule, said, size, compare):
     """One writing into so many lent bytes. What is written is read again, as the same schedule."""
     out = r.randbytes(size)
-    mine = ours.write_file(inputs.flat(tasks), count, chain, places, out)
-    theirs = reference.write_file(count, tasks, places, chain, out)
+    mine, theirs = ours.write_file(schedule, out), reference.write_file(*said, out)
     compare.meet(theirs[0])
-    compare.same(mine, theirs, "writing", tasks, count, chain, places, size)
+    compare.same(mine, theirs, "writing", schedule, size)
     if mine[0][0] == "ok":
-        compare.same(ours.read_file(mine[1][:mine[0][1]]), ("ok", tasks[:count], chain[:places]), "writing and reading", tasks, count, chain, places)
+        count, tasks, _, rows = said
+        compare.same(ours.read_file(mine[1][:mine[0][1]]), ("ok", tasks[:count], [numbers for _, numbers in rows]), "writing and reading", schedule)
 
 
 @group
 def writing(ours, r, factor, compare):
-    """writing schedule files: every number of tasks and of places, rubbish past them, lent bytes of every size"""
+    """writing schedule files: every number of tasks, of chains and of places, rubbish past them, lent bytes of every size"""
     for count in range(1, inputs.MOST_TASKS + 1):
         for places in range(1, inputs.MOST_PLACES + 1):
-            tasks, chain = inputs.schedule(r, count, places)
-            for size in lent_sizes(r, file_length(count, places)):
-                compare_writing(ours, r, tasks + inputs.past_tasks(r, tasks), count, chain + inputs.past_places(r, tasks), places, size, compare)
+            sizes = inputs.some_sizes(r, (count + places) % inputs.MOST_CHAINS + 1)
+            sizes[r.randrange(len(sizes))] = places
+            schedule = inputs.lent_schedule(r, *inputs.schedule(r, count, sizes))
+            for size in lent_sizes(r, file_length(count, sizes)):
+                compare_writing(ours, r, schedule, told(schedule), size, compare)
     compare.must_meet("ok", 11)
 
 
+def other_numbers(chain_count):
+    """Numbers of chains that are in no schedule of so many; the last would be right to a call that kept fewer bits."""
+    return [0, chain_count + 1, 5, 12, 13, library.LARGEST, 2**32 + 1, 2**63 + 1]
+
+
+def compare_refused(ours, r, schedule, size, compare):
+    """A schedule that is refused, or hardly not: every call on it gives the same refusal, whatever numbers of chains and whatever tick it is given."""
+    said = told(schedule)
+    compare_writing(ours, r, schedule, said, size, compare)
+    number, other = r.choice([1, 1, 2, 3, 4, *other_numbers(4)]), r.choice([1, 2, 3, 4, 0, library.LARGEST])
+    compare_choosing(ours, schedule, said, [number], compare)
+    t = r.choice([0, 0, inputs.UPPER, inputs.UPPER + 1, r.randint(0, 10**7)])
+    fault = reference.schedule_fault(*said)
+    # Without a fault the two chains may be any, on which the reference is slow.
+    if fault is not None:
+        compare.same(ours.bookings(schedule, number, other, t), fault, "bookings", schedule, number, other, t)
+
+
 @group
-def writing_refused(ours, r, factor, compare):
-    """writing schedule files refused: counts, tasks, chains, several faults"""
-    many = [2**16 + 1, 2**32 + 1, 2**63 + 1, 2**64 - 1]
-    for i in range(max(1, int(40 * factor))):
-        tasks, chain = inputs.schedule(r, 32, 12) if i < 3 else inputs.schedule(r, r.randint(1, 4), r.randint(1, 12))
-        count, places = len(tasks), len(chain)
-        length = file_length(count, places)
-        all_tasks, all_places = tasks + inputs.past_tasks(r, tasks), chain + inputs.past_places(r, tasks)
+def schedules(ours, r, factor, compare):
+    """schedules of 0 to 6 chains, lent with rubbish past every count: writing, and choosing each chain and others"""
+    for i in range(int(1400 * factor)):
+        chain_count = i % 7
+        sizes = inputs.some_sizes(r, chain_count)
+        tasks, chains = inputs.schedule(r, r.choice([1, 2, 3, 5, r.randint(1, 32), 32]), sizes)
+        schedule = inputs.lent_schedule(r, tasks, chains)
+        said = told(schedule)
+        compare_writing(ours, r, schedule, said, r.choice([*lent_sizes(r, file_length(len(tasks), sizes)), 900]), compare)
+        compare_choosing(ours, schedule, said, range(1, chain_count + 1), compare)
+        compare_choosing(ours, schedule, said, r.sample(other_numbers(chain_count), 3), compare)
+        if not 1 <= chain_count <= inputs.MOST_CHAINS:
+            compare_refused(ours, r, schedule, r.choice([0, 900]), compare)
+    compare.must_meet("ok", 8, 11, 16)
+
+
+@group
+def schedules_refused(ours, r, factor, compare):
+    """schedules refused, by writing, choosing and bookings: counts, tasks, each chain, several faults"""
+    for i in range(max(1, int(9 * factor))):
+        sizes = [12] * 4 if i == 0 else inputs.some_sizes(r, i % 4 + 1)
+        tasks, chains = inputs.schedule(r, 32 if i == 0 else r.randint(1, 4), sizes)
+        schedule, length = inputs.lent_schedule(r, tasks, chains), file_length(len(tasks), sizes)
+        count, past = schedule.count, schedule.tasks[4 * len(tasks):]
         for faulty in inputs.faulty_tasks(tasks):
-            compare_writing(ours, r, faulty + all_tasks[count:], count, all_places, places, r.choice(lent_sizes(r, length)), compare)
+            compare_refused(ours, r, schedule._replace(tasks=inputs.flat(faulty) + past), r.choice(lent_sizes(r, length)), compare)
         compare.must_meet(5)
-        for faulty in inputs.faulty_chains(r, tasks, chain, {task[0] for task in all_tasks[count:]}):
-            compare_writing(ours, r, all_tasks, count, faulty + all_places[places:], places, r.choice(lent_sizes(r, length)), compare)
-        compare.must_meet(6)
+        for c, chain in enumerate(chains):
+            for place, number in inputs.faulty_chain(r, tasks, chain, past[::4]):
+                strange = inputs.replaced(schedule.chains, library.CHAIN * c + place, number)
+                compare_refused(ours, r, schedule._replace(chains=strange), r.choice(lent_sizes(r, length)), compare)
+            compare.must_meet(6)
         # Lists that hold as many as the counts say, where a list can.
-        long_tasks, long_places = (tasks * 40)[:40], (chain * 40)[:40]
-        for other in [0, 33, 34, 40, *many]:
-            compare_writing(ours, r, long_tasks, other, all_places, places, r.choice([length, 2000]), compare)
+        long = schedule._replace(tasks=inputs.flat((tasks * 40)[:40]), chains=(schedule.chains * 80)[:80], places=[*schedule.places[:len(chains)], 1, 1, 1, 1])
+        for other in [0, 33, 34, 40, *[count + many for many in inputs.MANY], library.LARGEST]:
+            compare_refused(ours, r, long._replace(count=other), r.choice([length, 2000]), compare)
         compare.must_meet(8)
-        for other in [0, 13, 14, 40, *many]:
-            compare_writing(ours, r, all_tasks, count, long_places, other, r.choice([length, 2000]), compare)
+        for other in [0, 5, 6, *[len(chains) + many for many in inputs.MANY], library.LARGEST]:
+            compare_refused(ours, r, long._replace(chain_count=other), r.choice([length, 2000]), compare)
         compare.must_meet(8)
-    for _ in range(int(6000 * factor)):
-        tasks, count, chain, places = inputs.several_faults(r)
-        size = r.choice(lent_sizes(r, file_length(len(tasks), len(chain))))
-        compare_writing(ours, r, tasks, count, chain, places, size, compare)
+        for c in range(len(chains)):
+            for other in [0, 13, 14, 40, *[schedule.places[c] + many for many in inputs.MANY], library.LARGEST]:
+                compare_refused(ours, r, long._replace(places=inputs.replaced(long.places, c, other)), r.choice([length, 2000]), compare)
+            compare.must_meet(8)
+    for _ in range(int(3000 * factor)):
+        schedule = inputs.several_faults(r)
+        compare_refused(ours, r, schedule, r.choice([0, r.randint(0, 692), 692, 700]), compare)
     compare.must_meet("ok", 8, 5, 6, 11)
+
+
+def cut_short(r, schedule):
+    """The schedule with each of its lists, and with several, too short for its counts or of no whole tasks: the rest lies in memory past the list, or nothing does."""
+    tasks, last = 4 * schedule.count, schedule.chain_count - 1
+    least = library.CHAIN * last + schedule.places[last]
+    for lengths in (
+        (tasks - 4, None, None),
+        (r.randrange(tasks), None, None),
+        (tasks - r.choice([1, 2, 3]), None, None),
+        (None, least - 1, None),
+        (None, library.CHAIN * last, None),
+        (None, r.randrange(least), None),
+        (None, None, last),
+        (None, None, r.randrange(last + 1)),
+        (0, None, None),
+        (None, 0, None),
+        (None, None, 0),
+        (tasks - 1, least - 1, last),
+        (0, 0, 0),
+    ):
+        behind = schedule._replace(lengths=lengths)
+        yield behind
+        yield library.Schedule(*[part[:length] if isinstance(part, list) else part for part, length in zip(schedule[:5], (lengths[0], None, lengths[1], lengths[2], None))])
+    # One to three numbers more than whole tasks.
+    yield schedule._replace(tasks=schedule.tasks + [r.randint(1, 9) for _ in range(r.choice([1, 2, 3, 5]))])
+
+
+def just_held(r, schedule):
+    """The schedule in lists that just hold it, in memory that goes on or not, and in longer ones."""
+    tasks, last = 4 * schedule.count, schedule.chain_count - 1
+    least = library.CHAIN * last + schedule.places[last]
+    yield schedule._replace(lengths=(tasks, least, last + 1))
+    yield schedule._replace(tasks=schedule.tasks[:tasks], chains=schedule.chains[:least], places=schedule.places[:last + 1])
+    yield schedule._replace(chains=schedule.chains + [inputs.any_number(r) for _ in range(r.randint(1, 60))], places=schedule.places + [inputs.any_number(r)] * r.randint(1, 9))
 
 
 @group
 def lists_of_schedules(ours, r, factor, compare):
-    """lists that do not hold the counted tasks or places"""
+    """lists that do not hold the counted tasks, chains or places, and such as just hold them"""
     eight = ("refused", 8, 0)
-    for _ in range(int(1500 * factor)):
-        tasks, chain = inputs.any_schedule(r)
-        count, places = len(tasks), len(chain)
-        numbers, out = inputs.flat(tasks), r.randbytes(r.choice([0, 700]))
-        short = r.randint(1, len(numbers))
-        for lent, held in (
-            (numbers[:-short], chain),
-            (numbers[:-4], chain),
-            (numbers + [r.randint(1, 9) for _ in range(r.choice([1, 2, 3, 5]))], chain),
-            (numbers, chain[:-1]),
-            (numbers, chain[:r.randrange(places)]),
-            ([], chain),
-            (numbers, []),
-            ([], []),
-        ):
-            compare.same(ours.write_file(lent, count, held, places, out), (eight, out), "lists", lent, count, held, places)
-            given = ours.chain_of_schedule(lent, count, held, places)
-            # Without the places there is no place; without the tasks each place has zeros.
-            compare.same(given, [] if len(held) < places else [(0, 0, 0)] * places, "chain of lists", lent, count, held, places)
+    for _ in range(int(200 * factor)):
+        tasks, chains = inputs.any_schedule(r)
+        schedule, out = inputs.lent_schedule(r, tasks, chains), r.randbytes(r.choice([0, 700]))
+        for short in cut_short(r, schedule):
+            compare.same(reference.schedule_fault(*told(short)), eight, "lists", short)
+            compare.same(ours.write_file(short, out), (eight, out), "lists", short)
+            number = r.choice([1, len(chains), 0, library.LARGEST])
+            compare.same(ours.chain_of_schedule(short, number), eight, "chain of lists", short, number)
+            compare.same(ours.bookings(short, number, 1, 0), eight, "bookings of lists", short, number)
+        for held in just_held(r, schedule):
+            compare.same(reference.schedule_fault(*told(held)), None, "lists", held)
+            compare_writing(ours, r, held, told(held), 700, compare)
+            compare_choosing(ours, held, told(held), range(len(chains) + 2), compare)
+    compare.must_meet("ok", 16)
 
 
-def chain_of_any(tasks, count, chain, places):
-    """The chain of what may be no schedule, as the header tells it. The reference tells it of accepted schedules only."""
-    first = {}
-    for number, *values in tasks[:min(count, inputs.MOST_TASKS)]:
-        first.setdefault(number, tuple(values))
-    found = [first.get(number, (0, 0, 0)) for number in chain[:min(places, inputs.MOST_PLACES)]]
-    return found if places <= inputs.MOST_PLACES else ("left", places, found)
+# ---- Analyses from a schedule
+
+def analysed(ours, schedule, number, call, *arguments):
+    """An analysis of a chain of a schedule as C has it: the chain is chosen, and the call on chains takes what was given."""
+    given = ours.chain_of_schedule(schedule, number)
+    if given[0] != "ok":
+        return given
+    numbers = inputs.flat(given[1])
+    return call(numbers + [0] * (36 - len(numbers)), len(given[1]), *arguments)
+
+
+def analysed_chains(r):
+    """One to four chains that the reference is quick on, sometimes one of them with a hyperperiod above the limit; and their schedule."""
+    chains = [inputs.cut_chain(r)[:8] for _ in range(r.randint(1, inputs.MOST_CHAINS))]
+    if r.random() < 0.2:
+        chains[r.randrange(len(chains))] = [(999983, 1, 0), (999979, 5, 3)]
+    return chains, inputs.lent_schedule(r, *inputs.numbered(r, chains))
+
+
+def compare_analyses(ours, r, schedule, number, tasks, compare):
+    """Every analysis of one chain of a schedule; `tasks` are those of the chain where the number is one."""
+    said = *told(schedule), number
+    warm = reference.warm_up_of(*said)
+    compare.meet(warm)
+    compare.same(analysed(ours, schedule, number, ours.warm_up), padded(warm), "warm-up", schedule, number)
+    x0, h = warm[2:] if warm[0] == "ok" else (0, 12)
+    for t in inputs.ticks_around(r, [x0, x0 + h], 4):
+        compare.same(analysed(ours, schedule, number, ours.delay, t), reference.delay_of(*said, t), "delay", schedule, number, t)
+        compare.same(analysed(ours, schedule, number, ours.age, t), reference.age_of(*said, t), "age", schedule, number, t)
+    b, k = r.choice(window_bounds(r, tasks, warm)), r.choice([0, 1, 2, r.randint(3, 100), 101])
+    mine, theirs = analysed(ours, schedule, number, ours.windows, b, k), reference.windows_of(*said, b, k)
+    if theirs[0] == "ok" and mine[0] == "ok" and mine[2] in theirs[2]:
+        theirs = (*theirs[:2], mine[2])
+    compare.same(mine, theirs, "windows", schedule, number, b, k)
+    p, size = r.randint(0, len(tasks) + 1), r.choice([0, 1, 3, 60, 60])
+    starts, latencies = inputs.lent_lists(r, size, size)
+    mine = analysed(ours, schedule, number, ours.make, p, starts, latencies)
+    theirs = reference.make_of(*said, p, starts, latencies)
+    # A chain that is not chosen leaves no list to look at.
+    compare.same(mine, theirs if warm[0] == "ok" or warm[1] == 7 else theirs[0], "making", schedule, number, p)
+    if mine[0][0] == "ok":
+        _, g, x0, h, _ = mine[0]
+        table = library.table(*mine[1:], g, h)
+        for t in (x0, x0 + r.randrange(h), r.randint(x0, inputs.UPPER), inputs.UPPER):
+            compare.same(ours.read_table(table, t), analysed(ours, schedule, number, ours.delay, t), "table and walk", schedule, number, t)
 
 
 @group
-def chains_of_schedules(ours, r, factor, compare):
-    """chains of schedules, also of faulty ones, and their checks"""
-    for _ in range(int(5000 * factor)):
-        tasks, chain = inputs.any_schedule(r)
-        lent, held = tasks + inputs.past_tasks(r, tasks), chain + inputs.past_places(r, tasks)
-        count, places = len(tasks), len(chain)
-        given, theirs = ours.chain_of_schedule(inputs.flat(lent), count, held, places), reference.chain_of_schedule(tasks, chain)
-        compare.same(given, theirs, "chain", tasks, chain)
-        compare.same(ours.check(inputs.flat(given), len(given)), reference.check_chain(theirs), "check", tasks, chain)
-        # Any numbers in any field, tasks with one number, and counts up to what the lists hold.
-        tasks, _, chain, _ = inputs.several_faults(r)
-        tasks, chain = tasks + inputs.past_tasks(r, tasks) + tasks[:1], chain + inputs.past_places(r, tasks)
-        count, places = r.randint(0, len(tasks)), r.randint(0, len(chain))
-        compare.same(ours.chain_of_schedule(inputs.flat(tasks), count, chain, places), chain_of_any(tasks, count, chain, places), "chain", tasks, count, chain, places)
+def chosen_chains(ours, r, factor, compare):
+    """analyses from a schedule: warm-up, delay, age, windows and making of each chain, and of numbers that no chain has"""
+    for i in range(int(400 * factor)):
+        chains, schedule = analysed_chains(r)
+        for number, tasks in enumerate(chains, start=1):
+            compare_analyses(ours, r, schedule, number, tasks, compare)
+        compare_analyses(ours, r, schedule, r.choice(other_numbers(len(chains))), chains[0], compare)
+        if i % 4 == 0:
+            # A fault in any task, or in any chain, is one of every chain.
+            c = r.randrange(len(chains))
+            faulty = r.choice([
+                schedule._replace(tasks=inputs.replaced(schedule.tasks, 4 * r.randrange(schedule.count) + 1, 0)),
+                schedule._replace(chains=inputs.replaced(schedule.chains, library.CHAIN * c, 0)),
+                schedule._replace(places=inputs.replaced(schedule.places, c, 13)),
+            ])
+            compare_analyses(ours, r, faulty, r.choice([1, len(chains), 0, 9]), chains[0], compare)
+    compare.must_meet("ok", 5, 6, 7, 8, 16)
+
+
+# ---- Two chains side by side
+
+def compare_bookings(ours, schedule, first, second, t, compare):
+    """One press and two chains of a schedule: its figures, also as those of the two delays, and the same with the numbers changed about."""
+    theirs = reference.bookings_of(*told(schedule), first, second, t)
+    compare.meet(theirs)
+    mine = ours.bookings(schedule, first, second, t)
+    compare.same(mine, theirs, "bookings", schedule, first, second, t)
+    if mine[0] == "ok":
+        delays = [analysed(ours, schedule, number, ours.delay, t)[1] for number in (first, second)]
+        compare.same(mine[1:4], (t + max(delays), t + min(delays), max(delays) - min(delays)), "bookings and delays", schedule, first, second, t)
+    return mine
+
+
+def compare_pair(ours, r, schedule, first, second, count, compare):
+    """Two chains that are accepted, at so many ticks around their warm-ups and the upper tick."""
+    said = told(schedule)
+    one, two = reference.warm_up_of(*said, first), reference.warm_up_of(*said, second)
+    compare.same((one[0], two[0]), ("ok", "ok"), "accepted chains", schedule, first, second)
+    if "refused" in (one[0], two[0]):
+        return 0, 1
+    common = math.lcm(one[3], two[3])
+    for t in inputs.pair_ticks(r, (one[2], two[2]), common, count):
+        compare_bookings(ours, schedule, first, second, t, compare)
+    return max(one[2], two[2]), common
+
+
+@group
+def bookings(ours, r, factor, compare):
+    """bookings of two chains: common hyperperiods that are enumerated tick by tick"""
+    for i in range(int(500 * factor)):
+        common = r.choice([1, 2, 6, 12, 12, 24, 30, 60, 60, 84, 120, 180])
+        chains = [inputs.small_pair_chain(r, common) for _ in range(r.choice([1, 2, 2, 3, 4]))]
+        schedule = inputs.lent_schedule(r, *inputs.numbered(r, [chain[:32 // len(chains)] for chain in chains]))
+        first, second = r.randint(1, len(chains)), r.randint(1, len(chains))
+        warm, common = compare_pair(ours, r, schedule, first, second, 8, compare)
+        here = ours.bookings(schedule, first, second, warm)
+        compare.same(ours.bookings(schedule, second, first, warm), here, "bookings, the numbers changed about", schedule, first, second)
+        if first == second:
+            compare.same(here[3:], (0, 0), "one chain twice", schedule, first)
+        if i % 10 == 0:
+            # The greatest difference is that of some press of one common hyperperiod, and no press of the next one has more.
+            apart = [ours.bookings(schedule, first, second, t)[3:4] for t in range(warm, warm + 2 * common)]
+            compare.same((max(apart[:common]), max(apart)), (here[4:], here[4:]), "greatest difference", schedule, first, second)
+    compare.must_meet("ok", 12, 13)
+
+
+def quick_pair(one, two):
+    """Whether reference and program are both quick on two chains of (T, D, F)."""
+    longest = [max(t for t, _, _ in chain) for chain in (one, two)]
+    common = math.lcm(*[t for t, _, _ in one + two])
+    return common // min(longest) <= 100000 and (common // max(longest) <= 200 or common <= 1000)
+
+
+@group
+def wide_bookings(ours, r, factor, compare):
+    """bookings of two chains: long periods, durations and phases; common hyperperiods around those that are enumerated and at and above 60,000,000"""
+    made = 0
+    while made < int(120 * factor):
+        one, two = inputs.wide_pair_chain(r), inputs.wide_pair_chain(r)
+        if quick_pair(one, two):
+            made += 1
+            schedule = inputs.lent_schedule(r, *inputs.numbered(r, [one, two]))
+            compare_pair(ours, r, schedule, *r.choice([(1, 2), (2, 1)]), 6, compare)
+    compare.must_meet("ok", 12, 13)
+    for common in (19998, 20000, 20002):
+        one, two = ([(d, r.randint(1, 3 * d), r.randint(0, 3 * d)) for d in (r.choice([2, common // 2]), r.choice([1, common]))] for _ in range(2))
+        schedule = inputs.lent_schedule(r, *inputs.numbered(r, [one, [(common, 5, r.randint(0, 99))] + two]))
+        compare_pair(ours, r, schedule, 1, 2, 5, compare)
+    found = set()
+    for periods in inputs.COMMON * max(1, int(2 * factor)):
+        one, two = inputs.common_pair(r, periods)
+        schedule = inputs.lent_schedule(r, *inputs.numbered(r, [one, two]))
+        found.add(compare_pair(ours, r, schedule, 1, 2, 4, compare)[1] - inputs.MOST_HYPER)
+    compare.must_meet("ok", 7)
+    compare.same((0 in found, min(found) < 0 < max(found)), (True, True), "common hyperperiods at the limit, below and above")
+
+
+@group
+def bookings_refused(ours, r, factor, compare):
+    """bookings refused: every two of numbers in the schedule and not, faults of the schedule, of either chain and of both, ticks too early and too late"""
+    # Accepted; above the limit alone; above it beside the first; accepted, from tick 63 on.
+    chains = [[(7, 1, 3)], [(999983, 1, 0), (999979, 1, 0)], [(768, 1, 0), (78125, 1, 0)], [(7, 2, 0), (7, 1, 68)]]
+    for _ in range(max(1, int(2 * factor))):
+        schedule = inputs.lent_schedule(r, *inputs.numbered(r, chains))
+        faulty = [
+            schedule,
+            schedule._replace(count=0),
+            schedule._replace(chain_count=5),
+            schedule._replace(places=inputs.replaced(schedule.places, 3, 13)),
+            schedule._replace(tasks=inputs.replaced(schedule.tasks, 4 * schedule.count - 2, 0)),
+            schedule._replace(chains=inputs.replaced(schedule.chains, 36, 0)),
+            schedule._replace(tasks=inputs.replaced(schedule.tasks, 1, 0), chains=inputs.replaced(schedule.chains, 0, 0)),
+            schedule._replace(chain_count=0, tasks=inputs.replaced(schedule.tasks, 1, 0)),
+        ]
+        numbers = [0, 1, 2, 3, 4, 5, library.LARGEST]
+        for lent, first, second in itertools.product(faulty, numbers, numbers):
+            for t in r.sample([0, 2, 3, 62, 63, inputs.UPPER, inputs.UPPER + 1, library.LARGEST], 4):
+                compare_bookings(ours, lent, first, second, t, compare)
+        compare.must_meet("ok", 5, 6, 7, 8, 12, 13, 16)
 
 
 def outcome(job):

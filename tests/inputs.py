@@ -3,6 +3,9 @@ import itertools
 import math
 import struct
 
+from library import CHAIN as ENTRIES
+from library import Schedule
+
 LARGEST = 2**64 - 1
 UPPER = 10**12
 # Periods that meet in small hyperperiods, up to the limits of a task.
@@ -33,7 +36,8 @@ def faulty_task(r):
 
 def near_limit(r):
     """Chains whose hyperperiod is at its limit of 60,000,000, or just below or above."""
-    at = [(1000000, 768, 78125), (1000000, 60), (960000, 1000000, 7500), (999999, 60), (7745, 7747), (7746, 7747), (60, 1000000, 500000, 3), (999983, 60), (999983, 61), (1000000, 59), (1000000, 61, 60)]
+    # The second is just above it.
+    at = [(1000000, 768, 78125), (151, 397351), (1000000, 60), (960000, 1000000, 7500), (999999, 60), (7745, 7747), (7746, 7747), (60, 1000000, 500000, 3), (999983, 60), (999983, 61), (1000000, 59), (1000000, 61, 60)]
     periods = list(r.choice(at))
     r.shuffle(periods)
     return [(t, r.randint(1, 4000000), r.randint(0, 1000000)) for t in periods]
@@ -289,11 +293,11 @@ def lent_lists(r, n, m):
     return [r.randint(0, LARGEST) for _ in range(n)], [r.randint(0, LARGEST) for _ in range(m)]
 
 
-# Schedules: tasks (number, T, D, F) and a chain of task numbers. Files: records of length, kind and body, little-endian.
+# Schedules: tasks (number, T, D, F) and chains, each a list of task numbers. Files: records of length, kind and body, little-endian.
 
 TASK, CHAIN, END = 1, 2, 3
 # The greatest task number is also the most that a length or a kind can be.
-MOST_TASKS, MOST_PLACES, MOST_NUMBER = 32, 12, 65535
+MOST_TASKS, MOST_CHAINS, MOST_PLACES, MOST_NUMBER = 32, 4, 12, 65535
 # The least and the greatest of each value of a task, by its position among number, T, D, F.
 LIMITS = {0: (1, MOST_NUMBER), 1: (1, 1000000), 2: (1, 4000000), 3: (0, 1000000)}
 
@@ -310,15 +314,30 @@ def rising(r, count):
     return sorted(r.sample(range(1, MOST_NUMBER + 1), count))
 
 
-def schedule(r, count, places):
-    """A schedule of so many tasks and places."""
+def schedule(r, count, sizes):
+    """A schedule of so many tasks, with a chain of each of these numbers of places."""
     kind = r.choice([small_task, wide_task, edge_task])
     tasks = [(number, *kind(r)) for number in rising(r, count)]
-    return tasks, [r.choice(tasks)[0] for _ in range(places)]
+    return tasks, [[r.choice(tasks)[0] for _ in range(places)] for places in sizes]
+
+
+def some_sizes(r, chains):
+    """Numbers of places of so many chains."""
+    return [r.choice([1, 2, 3, r.randint(1, 12), 12]) for _ in range(chains)]
 
 
 def any_schedule(r):
-    return schedule(r, r.choice([1, 1, 2, 3, 4, r.randint(1, 32), 31, 32]), r.choice([1, 2, 3, r.randint(1, 12), 12]))
+    return schedule(r, r.choice([1, 1, 2, 3, 4, r.randint(1, 32), 31, 32]), some_sizes(r, r.randint(1, MOST_CHAINS)))
+
+
+def numbered(r, chains):
+    """The schedule of chains of (T, D, F): its numbered tasks, and the chains as task numbers. Other tasks stand between them, and a task may fill several places."""
+    kinds = list(dict.fromkeys(itertools.chain(*chains)))
+    kinds += [edge_task(r) for _ in range(min(r.choice([0, 0, 1, 3]), MOST_TASKS - len(kinds)))]
+    r.shuffle(kinds)
+    numbers = rising(r, len(kinds))
+    number_of = {task: number for number, task in zip(numbers, kinds)}
+    return [(number, *task) for number, task in zip(numbers, kinds)], [[number_of[task] for task in chain] for chain in chains]
 
 
 def record(kind, body, length=None):
@@ -337,8 +356,8 @@ def chain_record(numbers):
 END_RECORD = record(END, b"")
 
 
-def records(tasks, chain):
-    return [*[task_record(*task) for task in tasks], chain_record(chain), END_RECORD]
+def records(tasks, chains):
+    return [*[task_record(*task) for task in tasks], *[chain_record(chain) for chain in chains], END_RECORD]
 
 
 def joined(parts):
@@ -366,7 +385,7 @@ def swapped(r, parts):
 
 def inserted(r, parts):
     """Before each record and last: each record of the file, a task that rises on, one that does not, other chains, other kinds."""
-    last = max(struct.unpack_from("<H", part, 4)[0] for part in parts[:-2])
+    last = max(number for kind, number in (struct.unpack_from("<HH", part, 2) for part in parts[:-1]) if kind == TASK)
     rising_on = [task_record(number, 1, 1, 0) for number in {1, last, min(last + 1, MOST_NUMBER), MOST_NUMBER}]
     others = [chain_record([last]), chain_record([0]), chain_record([]), record(0, b""), record(4, b""), record(END, b"x")]
     others.append(record(r.randint(4, MOST_NUMBER), r.randbytes(r.randint(0, 20))))
@@ -410,14 +429,29 @@ def trailing(r, parts):
 
 # With the answers that each must lead to.
 RECORD_DAMAGES = {
-    doubled: (4, 5),
-    dropped: (1, 4, 6),
-    swapped: (4, 5),
+    doubled: ("ok", 4, 5),
+    dropped: ("ok", 1, 4, 6),
+    swapped: ("ok", 4, 5),
     inserted: ("ok", 2, 3, 4, 5, 6),
     wrong_lengths: (1, 2),
     other_kinds: (1, 2, 3, 4, 5, 6),
     trailing: (4,),
 }
+
+
+def turns(r, most):
+    """Every row of up to so many records, each a task, a chain or the end; the chains have tasks of before."""
+    for kinds in itertools.chain(*[itertools.product((TASK, CHAIN, END), repeat=n) for n in range(most + 1)]):
+        parts, numbers = [], []
+        for kind in kinds:
+            if kind == TASK:
+                numbers.append(len(numbers) + 1)
+                parts.append(task_record(numbers[-1], *small_task(r)))
+            elif kind == CHAIN:
+                parts.append(chain_record([r.choice(numbers or [1]) for _ in range(r.choice([1, 1, 2, 12]))]))
+            else:
+                parts.append(END_RECORD)
+        yield joined(parts)
 
 
 # Values at and past their limits.
@@ -436,14 +470,14 @@ def with_value(tasks, i, field, value):
     return [*tasks[:i], tuple(task), *tasks[i + 1:]]
 
 
-def edge_files(r, tasks, chain):
+def edge_files(r, tasks, chains):
     """Each value of each task at and past its limits; each number equal to the one before and after, below, above."""
     for i in range(len(tasks)):
         for field in LIMITS:
             for value in edge_values(field):
-                yield joined(records(with_value(tasks, i, field, value), chain))
+                yield joined(records(with_value(tasks, i, field, value), chains))
         for number in {tasks[max(0, i - 1)][0], tasks[i][0] - 1, tasks[0][0], tasks[-1][0], tasks[min(i + 1, len(tasks) - 1)][0]}:
-            yield joined(records(with_value(tasks, i, 0, number), chain))
+            yield joined(records(with_value(tasks, i, 0, number), chains))
 
 
 def unknown(r, tasks):
@@ -453,21 +487,25 @@ def unknown(r, tasks):
     return r.choice([n for n in near if n <= MOST_NUMBER and n not in numbers] or [0])
 
 
-def unknown_files(r, tasks, chain):
-    """An unknown task at each place, at two places and at all; chains of 0 and 13 places."""
+def unknown_files(r, tasks, chains, c):
+    """Of chain c: an unknown task at each place, at two places and at all; the chain with 0 and 13 places. The same with a fault in a chain after it."""
+    chain, parts = chains[c], records(tasks, chains)
+    at, last = len(tasks) + c, len(parts) - 2
     for i in range(len(chain)):
         strange = [*chain[:i], unknown(r, tasks), *chain[i + 1:]]
-        yield joined(records(tasks, strange))
+        yield joined([*parts[:at], chain_record(strange), *parts[at + 1:]])
         strange[r.randrange(len(chain))] = unknown(r, tasks)
-        yield joined(records(tasks, strange))
+        yield joined([*parts[:at], chain_record(strange), *parts[at + 1:]])
+        if at < last:
+            yield joined([*parts[:at], chain_record(strange), *parts[at + 1:last], chain_record(r.choice([[], [unknown(r, tasks)]])), END_RECORD])
     for numbers in ([unknown(r, tasks)] * len(chain), [], (chain * 13)[:13], (chain * 13)[:12] + [unknown(r, tasks)], (chain * 14)[:14]):
-        yield joined(records(tasks, numbers))
+        yield joined([*parts[:at], chain_record(numbers), *parts[at + 1:]])
 
 
 def many_tasks(r, count):
     """A file of more than 32 tasks: the 33rd is right but for that, or has another fault too, or the file ends there."""
-    tasks, chain = schedule(r, count, r.randint(1, 12))
-    parts = records(tasks, chain)
+    tasks, chains = schedule(r, count, some_sizes(r, r.randint(1, MOST_CHAINS)))
+    parts = records(tasks, chains)
     yield joined(parts)
     for i, fault in ((32, (0, 1, 1, 0)), (32, (tasks[0][0], 1, 1, 0)), (32, (MOST_NUMBER, 0, 1, 0)), (31, (0, 1, 1, 0))):
         yield joined([*parts[:i], task_record(*fault), *parts[i + 1:]])
@@ -480,11 +518,11 @@ def many_tasks(r, count):
 def faults_of_order(r):
     """Every record that has several faults at once, after every kind of beginning, with the rest of the file after it or not: only the order of
     the tests decides which fault is told."""
-    tasks, chain = schedule(r, 32, 3)
+    tasks, chains = schedule(r, 32, [3, 1, 2, 1])
     known, strange = tasks[0][0], unknown(r, tasks)
-    one, two, all_tasks = records(tasks[:1], [known]), records(tasks[:2], [known]), records(tasks, chain)
-    # Nothing, one task, two, all; then with the chain, and a whole file.
-    beginnings = [[], one[:1], two[:2], all_tasks[:32], one[:2], all_tasks[:33], two]
+    one, two, all_tasks = records(tasks[:1], [[known]] * 4), records(tasks[:2], [[known]]), records(tasks, chains)
+    # Nothing, one task, two, all; then with one chain, three and four, and a whole file.
+    beginnings = [[], one[:1], two[:2], all_tasks[:32], one[:2], one[:4], one[:5], all_tasks[:33], all_tasks[:36], two]
     faulty = [(0, 1, 1, 0), (MOST_NUMBER, 0, 1, 0), (MOST_NUMBER, 1, 0, 0), (MOST_NUMBER, 1, 1, 1000001), (0, 0, 0, 2**32 - 1)]
     bodies = [task_record(*task)[4:] for task in [tasks[2], tasks[0], *faulty]]
     bodies += [chain_record(numbers)[4:] for numbers in ([known], [strange], [known, strange], [strange] * 12, [strange] * 13, [])]
@@ -492,7 +530,7 @@ def faults_of_order(r):
         for length in {0, 3, 4, 5, 6, 18, len(body) + 3, len(body) + 4, len(body) + 5, MOST_NUMBER}:
             start = joined(beginning) + record(kind, body, length)
             yield start
-            yield start + joined(records(tasks[2:3], [tasks[2][0]]))
+            yield start + joined(records(tasks[2:3], [[tasks[2][0]]]))
 
 
 # Bytes that were never a file.
@@ -514,7 +552,8 @@ def random_records(r):
             number = min(MOST_NUMBER, number + r.choice([1, 1, 2, 1000] if r.random() < 0.97 else [0]))
             parts.append(task_record(number, *(edge_task(r) if r.random() < 0.98 else (0, 1, 1))))
         elif draw < 0.9:
-            parts.append(chain_record([r.randint(1, number + 1) if r.random() < 0.05 else number for _ in range(r.randint(1, 12))]))
+            for _ in range(r.choice([1, 1, 2, 3, 4, 5])):
+                parts.append(chain_record([r.randint(1, number + 1) if r.random() < 0.03 else number for _ in range(r.randint(1, 12))]))
             if r.random() < 0.7:
                 parts.append(END_RECORD)
                 if r.random() < 0.8:
@@ -533,8 +572,21 @@ def past_tasks(r, tasks):
     return [r.choice([tuple(any_number(r) for _ in range(4)), (min(tasks[-1][0] + 1 + i, MOST_NUMBER), 1, 1, 0)]) for i in range(r.choice([0, 1, 2, 31, 40]))]
 
 
-def past_places(r, tasks):
-    return [r.choice([any_number(r), tasks[0][0]]) for _ in range(r.choice([0, 1, 2, 11, 20]))]
+def lent_schedule(r, tasks, chains):
+    """A schedule as it is lent to C, with rubbish past its tasks, past the places of each chain and past the chains; sometimes in lists of chains and places that just
+    hold it."""
+    numbers = [r.choice([any_number(r), tasks[0][0]]) for _ in range(ENTRIES * len(chains) + r.choice([0, 1, 2, 11, 20]))]
+    places = [*map(len, chains), *[r.choice([0, 1, 12, 13, any_number(r)]) for _ in range(r.choice([0, 1, 3, 4, 6]))]]
+    for c, chain in enumerate(chains):
+        numbers[ENTRIES * c:ENTRIES * c + len(chain)] = chain
+    if chains and r.random() < 0.3:
+        del numbers[ENTRIES * (len(chains) - 1) + len(chains[-1]):], places[len(chains):]
+    return Schedule(flat(tasks + past_tasks(r, tasks)), len(tasks), numbers, places, len(chains))
+
+
+def replaced(numbers, at, value):
+    """The list with another number there."""
+    return [*numbers[:at], value, *numbers[at + 1:]]
 
 
 def faulty_values(field, before):
@@ -555,25 +607,72 @@ def faulty_tasks(tasks):
                 yield with_value(tasks, i, field, value)
 
 
-def faulty_chains(r, tasks, chain, past):
-    """Each place with each kind of number that no counted task has; `past` are numbers of tasks that stand past the count."""
+def faulty_chain(r, tasks, chain, past):
+    """Each place with each kind of number that no counted task has, the place with it; `past` are numbers of tasks that stand past the count."""
     numbers = {task[0] for task in tasks}
     for i in range(len(chain)):
         for number in {0, chain[i] + 2**16, chain[i] + 2**32, chain[i] + 2**63, MOST_NUMBER + 1, LARGEST, unknown(r, tasks), *past} - numbers:
-            yield [*chain[:i], number, *chain[i + 1:]]
+            yield i, number
+
+
+# Counts that pass with fewer bits.
+MANY = [2**16, 2**32, 2**63]
 
 
 def several_faults(r):
-    """A schedule with several faults, and its counts."""
-    tasks, chain = any_schedule(r)
-    count, places, known = len(tasks), len(chain), chain[0]
-    for _ in range(r.choice([0, 1, 2, 3])):
+    """A lent schedule with several faults, or none: in its tasks, in its chains, in its counts, in the lengths of its lists."""
+    tasks, chains = any_schedule(r)
+    known = chains[0][0]
+    for _ in range(r.choice([0, 0, 1, 2, 3])):
         i, field = r.randrange(len(tasks)), r.choice(list(LIMITS))
         tasks = with_value(tasks, i, field, r.choice(faulty_values(field, tasks[i - 1][0] if i else 0)))
-    for _ in range(r.choice([0, 1, 2])):
-        chain[r.randrange(places)] = r.choice([0, MOST_NUMBER, any_number(r), 2**32 + known])
-    if r.random() < 0.2:
-        count = r.choice([0, 33, LARGEST, 2**32 + count])
-    if r.random() < 0.2:
-        places = r.choice([0, 13, LARGEST, 2**32 + places])
-    return tasks, count, chain, places
+    for _ in range(r.choice([0, 0, 1, 2])):
+        chain = r.choice(chains)
+        chain[r.randrange(len(chain))] = r.choice([0, MOST_NUMBER, any_number(r), 2**32 + known])
+    lent = lent_schedule(r, tasks, chains)
+    if r.random() < 0.1:
+        lent = lent._replace(count=r.choice([0, 33, LARGEST, r.choice(MANY) + lent.count]))
+    if r.random() < 0.1:
+        lent = lent._replace(chain_count=r.choice([0, 5, 6, LARGEST, r.choice(MANY) + lent.chain_count]))
+    if r.random() < 0.15:
+        c = r.randrange(len(chains))
+        lent = lent._replace(places=replaced(lent.places, c, r.choice([0, 13, LARGEST, r.choice(MANY) + lent.places[c]])))
+    if r.random() < 0.1:
+        # Shorter lists, with the rest in memory past them.
+        lent = lent._replace(lengths=tuple(r.choice([None, r.randint(0, len(numbers))]) for numbers in (lent.tasks, lent.chains, lent.places)))
+    return lent
+
+
+# Two chains side by side.
+
+def divisors(n):
+    return [d for d in range(1, n + 1) if n % d == 0]
+
+
+def small_pair_chain(r, common):
+    """A chain whose hyperperiod divides that number: durations above the periods too, and phases."""
+    return [(r.choice(divisors(common)), r.choice([1, r.randint(1, 12), r.randint(1, 90)]), r.choice([0, r.randint(0, 12), r.randint(0, 150)])) for _ in range(r.choice([1, 1, 2, 2, 3, 4, 12]))]
+
+
+def wide_pair_chain(r):
+    """A chain of long periods, durations up to four seconds and phases up to one."""
+    return [(r.choice(HARMONIC[12:]), r.choice([1, r.randint(1, 4000000), r.randint(1, 1000), 4000000]), r.choice([0, r.randint(0, 1000000), r.randint(0, 1000), 1000000])) for _ in range(r.choice([1, 1, 2, 3, 5, 12]))]
+
+
+# Periods of two chains whose common hyperperiod is the limit of 60,000,000, below it and above; each chain alone is accepted.
+COMMON = [((768,), (78125,)), ((151,), (397351,)), ((78125, 768), (1000000,)), ((768,), (1000000, 78125)), ((1000000,), (59,)), ((1000000,), (60,)), ((7500, 960000), (1000000,)), ((999983,), (60,)), ((769,), (78125,)), ((999983,), (61,)), ((7745,), (7747,)), ((78125, 768), (7,)), ((1000000,), (61, 60)), ((1000000,), (999999,)), ((999983, 60), (999983,))]
+
+
+def common_pair(r, periods):
+    """Two chains of these periods, in either order."""
+    both = [[(t, r.choice([1, r.randint(1, 4000000)]), r.choice([0, r.randint(0, 1000000)])) for t in some] for some in periods]
+    r.shuffle(both)
+    return both
+
+
+def pair_ticks(r, warm, common, count):
+    """Ticks around the warm-up ticks, one common hyperperiod later and the upper tick, and anywhere."""
+    middles = [*warm, max(warm) + common, UPPER]
+    some = [middle + step for middle in middles for step in (-1, 0, 1)]
+    some = within([*some, 0, LARGEST, 2**63, r.randint(0, max(warm) + common), r.randint(0, UPPER), r.randint(max(warm), UPPER)])
+    return r.sample(some, min(count, len(some)))

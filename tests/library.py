@@ -6,6 +6,7 @@ and Library wraps each call: it takes plain ints and lists and answers as the re
 import ctypes
 import os
 import subprocess
+import typing
 
 TOP = os.path.dirname(os.path.dirname(os.path.abspath(__file__)))
 SHARED = os.path.join(TOP, "target", "tests", "libmeshorchard.so")
@@ -30,9 +31,9 @@ def build():
     return Library(SHARED)
 
 
-def words(numbers):
-    """A lent list of numbers: the array, and its length."""
-    return (U64 * max(1, len(numbers)))(*numbers), SIZE(len(numbers))
+def words(numbers, length=None):
+    """A lent list of numbers: the array, and its length, or a shorter one: the others then lie in memory past the list."""
+    return (U64 * max(1, len(numbers)))(*numbers), SIZE(len(numbers) if length is None else length)
 
 
 def filled(count):
@@ -40,9 +41,28 @@ def filled(count):
     return (U64 * count)(*[RUBBISH] * count)
 
 
-def schedule(flat, count, chain, places):
-    """A lent schedule: the first arguments of every call on one."""
-    return (*words(flat), SIZE(count), *words(chain), SIZE(places))
+# The entries of the list of chains that each chain has.
+CHAIN = 12
+
+
+class Schedule(typing.NamedTuple):
+    """A schedule as it is lent to C: any numbers in any lists, and any counts."""
+
+    tasks: list  # number, T, D, F, number, T, D, F, ..
+    count: int
+    chains: list  # the task numbers of chain c, from 0, stand from entry 12 c on
+    places: list  # of each chain
+    chain_count: int
+    lengths: tuple = (None, None, None)  # of the three lists, where they are lent as shorter ones
+
+    def arguments(self):
+        """The first arguments of every call on a schedule."""
+        tasks, chains, places = map(words, (self.tasks, self.chains, self.places), self.lengths)
+        return (*tasks, SIZE(self.count), *chains, *places, SIZE(self.chain_count))
+
+    def kept(self, arguments):
+        """Whether the lists are still as they were lent."""
+        return all(list(after)[:len(before)] == before for before, after in ((self.tasks, arguments[0]), (self.chains, arguments[3]), (self.places, arguments[5])))
 
 
 def refusal(code):
@@ -58,7 +78,7 @@ def table(starts, latencies, g, h):
 class Library:
     def __init__(self, path):
         self.c = ctypes.CDLL(path)
-        for name in ("mo_check", "mo_warm_up", "mo_delay", "mo_age", "mo_make_table", "mo_read_table", "mo_greatest", "mo_low", "mo_mean", "mo_throughput", "mo_exceedance", "mo_windows", "mo_read_file", "mo_write_file", "mo_chain_of_schedule", "mo_report"):
+        for name in ("mo_check", "mo_warm_up", "mo_delay", "mo_age", "mo_make_table", "mo_read_table", "mo_greatest", "mo_low", "mo_mean", "mo_throughput", "mo_exceedance", "mo_windows", "mo_read_file", "mo_write_file", "mo_chain_of_schedule", "mo_bookings", "mo_report"):
             getattr(self.c, name).restype = U64
 
     def numbers(self, call, count, *arguments):
@@ -133,31 +153,37 @@ class Library:
             return ("ok", "endless")
         return answer[:2] if answer[0] == "ok" and answer[2] == 0 else answer
 
-    # The calls on schedules and their files. A task is (number, T, D, F); `flat` is the list of these numbers.
+    # The calls on schedules and their files. A task is (number, T, D, F), a chain a list of task numbers; a schedule is lent as above.
+
+    def read_file_as_lent(self, data, past=b""):
+        """Reading a file: the code, and what the four arrays hold after it. `past` lies in memory after the lent bytes, where a call that looks
+        past them would find it. The bytes must stay as they were."""
+        lent = ctypes.create_string_buffer(data + past + FENCE)
+        arrays = filled(128), filled(4 * CHAIN), filled(4), filled(2)
+        code = self.c.mo_read_file(lent, SIZE(len(data)), *arrays)
+        return ("changed" if lent.raw[:-1] != data + past + FENCE else code, *map(list, arrays))
 
     def read_file(self, data, past=b""):
-        """Reading a file. `past` lies in memory after the lent bytes, where a call that looks past them would find it. A refusal must leave 0 in
-        every entry, a success 0 in the entries past the counts, and either the lent bytes as they were."""
-        lent = ctypes.create_string_buffer(data + past + FENCE)
-        tasks, chain, counts = filled(128), filled(12), filled(2)
-        code = self.c.mo_read_file(lent, SIZE(len(data)), tasks, chain, counts)
-        tasks, chain, (count, places) = list(tasks), list(chain), counts
-        if lent.raw[:-1] != data + past + FENCE:
-            return ("changed", code, lent.raw)
+        """Reading a file. A refusal must leave 0 in every entry, a success 0 in the entries past the counts."""
+        found = self.read_file_as_lent(data, past)
+        code, tasks, chains, places, (count, chain_count) = found
         if code != 0:
-            return ("left", code, tasks, chain, count, places) if count or places or any(tasks) or any(chain) else refusal(code)
-        if count > 32 or places > 12 or any(tasks[4 * count:]) or any(chain[places:]):
-            return ("left", code, tasks, chain, count, places)
-        return ("ok", [tuple(tasks[i:i + 4]) for i in range(0, 4 * count, 4)], chain[:places])
+            return ("left", *found) if code == "changed" or count or chain_count or any(tasks) or any(chains) or any(places) else refusal(code)
+        rows = [chains[i:i + CHAIN] for i in range(0, 4 * CHAIN, CHAIN)]
+        if count > 32 or chain_count > 4 or any(n > CHAIN for n in places) or any(tasks[4 * count:]) or any(places[chain_count:]):
+            return ("left", *found)
+        if any(any(row[n:]) for row, n in zip(rows, places)):
+            return ("left", *found)
+        return ("ok", [tuple(tasks[i:i + 4]) for i in range(0, 4 * count, 4)], [row[:n] for row, n in zip(rows, places)][:chain_count])
 
-    def write_file(self, flat, count, chain, places, out):
+    def write_file(self, schedule, out):
         """Writing a file, and what the lent bytes hold after it. A refusal must leave them, and 0 for the length; no call may write past them or
         to the schedule's lists."""
         lent, length = ctypes.create_string_buffer(out + FENCE), U64(RUBBISH)
-        arguments = schedule(flat, count, chain, places)
+        arguments = schedule.arguments()
         code = self.c.mo_write_file(*arguments, lent, SIZE(len(out)), ctypes.byref(length))
         after = lent.raw[:len(out)]
-        if lent.raw[len(out):-1] != FENCE or list(arguments[0])[:len(flat)] != flat or list(arguments[3])[:len(chain)] != chain:
+        if lent.raw[len(out):-1] != FENCE or not schedule.kept(arguments):
             answer = ("changed", code, lent.raw)
         elif code == 0:
             answer = ("ok", length.value)
@@ -165,15 +191,24 @@ class Library:
             answer = refusal(code) if length.value == 0 and after == out else ("left", code, length.value)
         return answer, after
 
-    def chain_of_schedule(self, flat, count, chain, places):
-        """The chain of a schedule as a list of (T, D, F). The numbers past its places must be 0; what has more than twelve is shown whole."""
-        numbers = filled(36)
-        given = self.c.mo_chain_of_schedule(*schedule(flat, count, chain, places), numbers)
-        numbers = list(numbers)
-        tasks = [tuple(numbers[i:i + 3]) for i in range(0, 36, 3)]
-        if given > 12 or any(numbers[3 * given:]):
-            return ("left", given, tasks)
-        return tasks[:given]
+    def chain_of_schedule(self, schedule, number):
+        """A chain of a schedule as a list of (T, D, F). The numbers past its places must be 0, and in a refusal all of them and the places."""
+        arguments, numbers, given = schedule.arguments(), filled(36), U64(RUBBISH)
+        code = self.c.mo_chain_of_schedule(*arguments, SIZE(number), numbers, ctypes.byref(given))
+        numbers, given = list(numbers), given.value
+        if given > CHAIN or any(numbers[3 * given:]) or code != 0 and given or not schedule.kept(arguments):
+            return ("left", code, given, numbers)
+        return refusal(code) if code != 0 else ("ok", [tuple(numbers[i:i + 3]) for i in range(0, 3 * given, 3)])
+
+    def bookings(self, schedule, first, second, t):
+        """Later and earlier booking, their difference and the greatest. A refusal must leave 0 in each."""
+        arguments, figures = schedule.arguments(), filled(4)
+        code = self.c.mo_bookings(*arguments, SIZE(first), SIZE(second), U64(t), figures)
+        if not schedule.kept(arguments):
+            return ("changed", code, *figures)
+        if code == 0:
+            return ("ok", *figures)
+        return refusal(code) if not any(figures) else ("left", code, *figures)
 
     def report(self, data, out):
         """The length of a report, and what the lent bytes hold after it. No call may write past them or to the file's bytes."""

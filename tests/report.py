@@ -2,15 +2,17 @@
 
     python3 tests/report.py [--count FACTOR] [--seed SEED]
 
-Runs the program once for each file, and the call with more bytes than the text has, with just as many and with fewer. Each group prints
-its number of files. Then come reads and writes that fail, and the statuses of ./report. The last line is 'N passed, M failed', in groups. A
+Runs the program once for each file, and the call with more bytes than the text has, with just as many, with fewer, and with bytes that end
+inside the text of each chain. Each group prints its number of files. Then come reads and writes that fail, and the statuses of ./report. The last line is 'N passed, M failed', in groups. A
 disagreement is printed with its file.
 """
 import argparse
 import glob
+import itertools
 import math
 import os
 import random
+import re
 import subprocess
 import sys
 import tempfile
@@ -48,9 +50,16 @@ def printed(data):
     return subprocess.run([PROGRAM], input=data, stdout=subprocess.PIPE, check=True).stdout
 
 
+def sizes(r, text):
+    """Numbers of lent bytes for a text: more, as many, fewer, and an end inside the text of each chain; at its line `chain N` for one of them."""
+    starts = [line.start() for line in re.finditer(rb"^chain ", text, re.MULTILINE)]
+    inside = [r.randrange(start + 1, end) for start, end in zip(starts, starts[1:] + [len(text)])]
+    return [len(text) + 9, len(text), r.randrange(len(text)), *inside, *r.sample(starts, min(1, len(starts)))]
+
+
 def called(calls, r, data, text):
     """Whether the call leaves this text in lent bytes, as much of it as fits, and answers its length."""
-    for size in (len(text) + 9, len(text), r.randrange(len(text))):
+    for size in sizes(r, text):
         old = r.randbytes(size)
         if calls.report(data, old) != (len(text), (text + old[len(text):])[:size]):
             return False
@@ -66,26 +75,25 @@ def rightly_called(calls, r, data, text):
 
 # ---- files
 
-def records(tasks, chain):
-    """The records of a schedule: numbered tasks (number, T, D, F), and the task numbers of the chain."""
-    return [make.task_record(*task) for task in tasks] + [make.chain_record(chain), make.END]
+def records(tasks, chains):
+    """The records of a schedule: numbered tasks (number, T, D, F), and the task numbers of each chain."""
+    return [*[make.task_record(*task) for task in tasks], *[make.chain_record(chain) for chain in chains], make.END]
 
 
-def schedule(r, places):
-    """Numbered tasks and a chain of these places; other tasks stand between them, and a task may fill several places."""
-    kinds = list(dict.fromkeys(places)) + [inputs.edge_task(r) for _ in range(r.choice([0, 0, 1, 3]))]
-    r.shuffle(kinds)
-    numbers = sorted(r.sample(range(1, 65536), len(kinds)))
-    if r.random() < 0.2:
-        numbers[-1] = 65535
-    number_of = {task: number for number, task in zip(numbers, kinds)}
-    return [(number, *task) for number, task in zip(numbers, kinds)], [number_of[task] for task in places]
+def file_of(r, chains):
+    """The records of a schedule with these chains of (T, D, F)."""
+    return records(*inputs.numbered(r, chains))
+
+
+def partitions(places):
+    """How many partitions the report of this chain walks."""
+    periods = [t for t, _, _ in places]
+    return math.lcm(*periods) // max(periods)
 
 
 def quick(places):
     """Whether the reference is quick on this chain."""
-    periods = [t for t, _, _ in places]
-    return math.lcm(*periods) // max(periods) <= LONGEST
+    return partitions(places) <= LONGEST
 
 
 def quick_chain(r):
@@ -95,46 +103,98 @@ def quick_chain(r):
             return places
 
 
-def refusal(data):
-    """The refusal that the reference prints, or nothing."""
-    words = reference.report(data).split()
-    return tuple(map(int, words[1:])) if words[0] == b"refused" else None
+def quick_chains(r, count):
+    """So many chains, of no more tasks than a schedule holds."""
+    while True:
+        chains = [quick_chain(r) for _ in range(count)]
+        if len(set(itertools.chain(*chains))) <= inputs.MOST_TASKS - 4:
+            return chains
+
+
+def beside(r, chain):
+    """The chain with up to three others, before and after it."""
+    chains = quick_chains(r, r.randint(0, inputs.MOST_CHAINS - 1))
+    chains.insert(r.randint(0, len(chains)), chain)
+    return chains
+
+
+def refusals(data):
+    """The refusals that the reference prints, of the file (0) or by the number of the chain."""
+    found, chain = {}, 0
+    for line in reference.report(data).split(b"\n"):
+        words = line.split()
+        if words[:1] == [b"chain"]:
+            chain = int(words[1])
+        if words[:1] == [b"refused"]:
+            found[chain] = tuple(map(int, words[1:]))
+    return found
 
 
 # ---- groups: each yields files
 
 @group
 def whole(r, factor):
-    """schedule files"""
-    for _ in range(int(900 * factor)):
-        yield b"".join(records(*schedule(r, quick_chain(r))))
+    """schedule files of one to four chains"""
+    for i in range(int(600 * factor)):
+        yield b"".join(file_of(r, quick_chains(r, i % inputs.MOST_CHAINS + 1)))
 
 
 @group
 def hyperperiods(r, factor):
-    """hyperperiods at the limit of 60,000,000, just below and above"""
+    """hyperperiods at the limit of 60,000,000, just below and above, of a chain beside others"""
     found = set()
     for _ in range(int(150 * factor)):
         places = inputs.near_limit(r)
         if quick(places) or math.lcm(*[t for t, _, _ in places]) > 60000000:
             found.add(math.lcm(*[t for t, _, _ in places]))
-            yield b"".join(records(*schedule(r, places)))
+            yield b"".join(file_of(r, beside(r, places)))
     assert 60000000 in found and max(found) > 60000000
+
+
+def near_slots(r, n):
+    """A chain of about so many anchors: two periods with no common divisor have one anchor for each job of the longer one."""
+    places = [(n, r.randint(1, 50), r.randint(0, 50)), (n + 1, r.randint(1, 50), r.randint(0, 50))]
+    r.shuffle(places)
+    return places
 
 
 @group
 def slots(r, factor):
-    """anchors around the 1,024 slots"""
+    """anchors around the 1,024 slots, of a chain beside others"""
     found = set()
     for _ in range(int(60 * factor)):
-        # Two periods with no common divisor have one anchor for each job of the longer one.
-        n = r.choice([1022, 1023, 1023, 1024, 1024, 1025, 1100, 3000])
-        places = [(n, r.randint(1, 50), r.randint(0, 50)), (n + 1, r.randint(1, 50), r.randint(0, 50))]
-        r.shuffle(places)
-        data = b"".join(records(*schedule(r, places)))
-        found.add(refusal(data))
+        data = b"".join(file_of(r, beside(r, near_slots(r, r.choice([1022, 1023, 1023, 1024, 1024, 1025, 1100, 3000])))))
+        found |= set(refusals(data).values()) or {None}
         yield data
     assert found == {None, (11, 0)}
+
+
+@group
+def refused_chains(r, factor):
+    """one to four chains, each with a table, with a hyperperiod above the limit or with too many anchors, in every order"""
+    for _ in range(max(1, int(factor))):
+        for kinds in itertools.chain(*[itertools.product((0, 7, 11), repeat=count) for count in range(1, inputs.MOST_CHAINS + 1)]):
+            chains = quick_chains(r, len(kinds))
+            for c, kind in enumerate(kinds):
+                if kind == 7:
+                    chains[c] = [(999983, 1, 0), (999979, 1, 0)]
+                elif kind == 11:
+                    chains[c] = near_slots(r, 1030)
+                elif reference.check_chain(chains[c])[0] != "ok" or partitions(chains[c]) > 1024:
+                    chains[c] = [inputs.small_task(r)]
+            data = b"".join(file_of(r, chains))
+            assert refusals(data) == {number: (kind, 0) for number, kind in enumerate(kinds, start=1) if kind}
+            yield data
+
+
+@group
+def longest(r, factor):
+    """four chains of 1,023 and 1,024 anchors, whose text has more than 65,536 bytes"""
+    for _ in range(max(1, int(2 * factor))):
+        pairs = [(1023, 58651), (1024, 58593), (1023, 58651), (1024, 58593)]
+        data = b"".join(file_of(r, [[(t, r.randint(3000000, 4000000), r.randint(0, 1000000)) for t in r.sample(pair, 2)] for pair in pairs]))
+        assert len(reference.report(data)) > 65536
+        yield data
 
 
 @group
@@ -142,7 +202,7 @@ def damaged(r, factor):
     """damaged files"""
     found = set()
     for _ in range(int(1100 * factor)):
-        some = records(*schedule(r, quick_chain(r)))
+        some = file_of(r, quick_chains(r, r.choice([1, 1, 2, 3, 4])))
         for _ in range(r.choice([0, 1, 1, 2])):
             at = r.randrange(len(some))
             some[at:at + r.choice([0, 1])] = r.choice([[], [r.choice(some)], [make.END], [make.task_record(r.randint(0, 9), *inputs.edge_task(r))]])
@@ -156,21 +216,29 @@ def damaged(r, factor):
             data += bytes(r.randint(1, 5))
         read = reference.read_file(bytes(data))
         # A change may have made a chain on which the reference is slow.
-        if read[0] == "ok" and not quick(reference.chain_of_schedule(read[1], read[2])):
-            continue
-        found.add(refusal(bytes(data)))
+        if read[0] == "ok":
+            task_of = {number: task for number, *task in read[1]}
+            if not all(quick([task_of[number] for number in chain]) for chain in read[2]):
+                continue
+        else:
+            # A refused file has its one line alone.
+            assert reference.report(bytes(data)).count(b"\n") == 1
+            found.add(read[1])
         yield bytes(data)
-    assert {1, 2, 3, 4, 5, 6} <= {one[0] for one in found if one}
+    assert {1, 2, 3, 4, 5, 6} <= found
 
 
 @group
 def many(r, factor):
-    """32 and 33 tasks, 0 to 13 places"""
-    for _ in range(int(40 * factor)):
-        for count, places in ((32, 12), (33, 12), (32, 13), (1, 1), (32, r.randint(0, 13))):
+    """32 and 33 tasks, 0 to 13 places, 0 to 6 chains"""
+    found = set()
+    for _ in range(int(30 * factor)):
+        for count, sizes in ((32, [12]), (33, [12]), (32, [13]), (1, [1]), (32, [r.randint(0, 13)]), (32, [12] * 4), (32, [12] * 5), (2, [1] * r.randint(0, 6)), (3, [1, 2, r.randint(0, 13)])):
             tasks = [(2 * i + 1, *inputs.small_task(r)) for i in range(count)]
-            chain = [r.choice(tasks)[0] for _ in range(places)]
-            yield b"".join(records(tasks, chain))
+            data = b"".join(records(tasks, [[r.choice(tasks)[0] for _ in range(places)] for places in sizes]))
+            found.add(refusals(data).get(0, (0,))[0])
+            yield data
+    assert found == {0, 2, 4}
 
 
 @group
@@ -178,12 +246,12 @@ def long(r, factor):
     """inputs around and beyond 4,096 bytes"""
     found = set()
     for _ in range(int(15 * factor)):
-        start = b"".join(records(*schedule(r, quick_chain(r)))[:-1])
+        start = b"".join(file_of(r, quick_chains(r, r.randint(1, inputs.MOST_CHAINS)))[:-1])
         for end in (4095, 4096, 4097, r.randint(4098, 65535)):
             # A record of an unknown kind that ends there: it is 3 where the first 4,096 bytes hold it, else 1.
             size = end - len(start)
             data = start + make.number(size, 2) + make.number(9, 2) + bytes(size - 4)
-            found.add(refusal(data)[0])
+            found.add(reference.read_file(data[:4096])[1])
             yield data
             yield data + bytes(r.randint(1, 5000))
         yield start + make.END + bytes(r.randint(1, 70000))
@@ -203,7 +271,7 @@ def short(r, factor):
 def examples(r, factor):
     """examples/: each file is what its description says, and its report what the program prints"""
     names = sorted(glob.glob(os.path.join(TOP, "examples", "*.txt")))
-    assert len(names) >= 3
+    assert len(names) >= 4
     for name in names:
         with open(name, encoding="ascii") as described:
             data, report = make.described(described.read())
@@ -224,10 +292,15 @@ def ran(command, **how):
 def failures():
     """reads and writes that fail, and the statuses of ./report"""
     chain_a = os.path.join(TOP, "examples", "chain-a.schedule")
-    with open(chain_a, "rb") as kept, tempfile.NamedTemporaryFile() as broken, open("/dev/full", "wb") as full:
+    with open(chain_a, "rb") as kept, tempfile.NamedTemporaryFile() as broken, tempfile.NamedTemporaryFile() as refused, open("/dev/full", "wb") as full:
         text = reference.report(kept.read())
         broken.write(bytes(3))
         broken.flush()
+        # Two periods with a hyperperiod above the limit, then a chain that has a table.
+        file = b"".join(records([(1, 769, 1, 0), (2, 78125, 1, 0), (3, 7, 1, 0)], [[1, 2], [3]]))
+        second = reference.report(file)
+        refused.write(file)
+        refused.flush()
         folder = os.open("/", os.O_RDONLY)
         with open(chain_a, "rb") as data:
             yield "a full disk", ran([PROGRAM], stdin=data, stdout=full), (0, None, b"chainreport: writing the report: No space left on device\n")
@@ -236,6 +309,7 @@ def failures():
         os.close(folder)
         yield "./report", ran(["./report"]), (0, text, b"")
         yield "./report of a refused file", ran(["./report", broken.name]), (1, b"refused 1 0\n", b"")
+        yield "./report of a refused chain before another", ran(["./report", refused.name]), (1, second, b"")
         yield "./report of a folder", ran(["./report", "/"]), (2, b"", b"chainreport: reading standard input: Is a directory\n")
         yield "./report of no name", ran(["./report", ""])[:2], (2, b"")
         yield "./report of no file", ran(["./report", broken.name + "-missing"])[:2], (2, b"")

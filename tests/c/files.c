@@ -1,5 +1,6 @@
 /*
- * Schedules and their files through the header, held to document 01's file of chain A and its refusals. tests/c/run builds and runs it.
+ * Schedules and their files through the header, held to document 01's file of chain A and its refusals, and to worked examples of several
+ * chains. tests/c/run builds and runs it.
  */
 #include "meshorchard.h"
 
@@ -20,18 +21,41 @@ static const uint8_t file_a[48] = {
     4, 0, 3, 0,
 };
 
-static uint64_t tasks[128], chain[12], counts[2];
-static uint8_t out[64];
+/* Two chains, 1 2 and 3, of tasks (4, 4, 0), (6, 6, 0) and (10, 3, 5). */
+static const uint8_t file_s[72] = {
+    18, 0, 1, 0, 1, 0, 4, 0, 0, 0, 4, 0, 0, 0, 0, 0, 0, 0,
+    18, 0, 1, 0, 2, 0, 6, 0, 0, 0, 6, 0, 0, 0, 0, 0, 0, 0,
+    18, 0, 1, 0, 3, 0, 10, 0, 0, 0, 3, 0, 0, 0, 5, 0, 0, 0,
+    8, 0, 2, 0, 1, 0, 2, 0,
+    6, 0, 2, 0, 3, 0,
+    4, 0, 3, 0,
+};
+
+/* One task, (4, 4, 0), and the chain 1 five times. With four of them the file has 46 bytes. */
+static const uint8_t five[52] = {
+    18, 0, 1, 0, 1, 0, 4, 0, 0, 0, 4, 0, 0, 0, 0, 0, 0, 0,
+    6, 0, 2, 0, 1, 0,
+    6, 0, 2, 0, 1, 0,
+    6, 0, 2, 0, 1, 0,
+    6, 0, 2, 0, 1, 0,
+    6, 0, 2, 0, 1, 0,
+    4, 0, 3, 0,
+};
+
+static uint64_t tasks[128], chains[48], places[4], counts[2], flat[36], chain_places;
+static uint8_t out[96];
 static uint64_t length;
 
 static uint64_t read_file(const uint8_t *bytes, size_t n)
 {
     for (size_t i = 0; i < 128; i++)
         tasks[i] = RUBBISH;
-    for (size_t i = 0; i < 12; i++)
-        chain[i] = RUBBISH;
+    for (size_t i = 0; i < 48; i++)
+        chains[i] = RUBBISH;
+    for (size_t i = 0; i < 4; i++)
+        places[i] = RUBBISH;
     counts[0] = counts[1] = RUBBISH;
-    return mo_read_file(bytes, n, tasks, chain, counts);
+    return mo_read_file(bytes, n, tasks, chains, places, counts);
 }
 
 /* The entries of a list from one on that are not 0. */
@@ -44,19 +68,53 @@ static uint64_t other_than_0(const uint64_t *list, size_t from, size_t n)
     return found;
 }
 
+/* What a refused reading must not leave. */
+static uint64_t left_by_reading(void)
+{
+    return other_than_0(tasks, 0, 128) + other_than_0(chains, 0, 48) + other_than_0(places, 0, 4) + other_than_0(counts, 0, 2);
+}
+
 static void check_reading(void)
 {
     static const uint64_t wanted[8] = { 1, 4, 4, 0, 2, 6, 6, 0 };
 
     expect("A's file", read_file(file_a, 48), 0);
     expect("  tasks", counts[0], 2);
-    expect("  places", counts[1], 2);
+    expect("  chains", counts[1], 1);
+    expect("  places", places[0], 2);
     for (size_t i = 0; i < 8; i++)
         expect("  number, T, D or F", tasks[i], wanted[i]);
-    expect("  place 1", chain[0], 1);
-    expect("  place 2", chain[1], 2);
+    expect("  place 1", chains[0], 1);
+    expect("  place 2", chains[1], 2);
     expect("  other than 0 past the tasks", other_than_0(tasks, 8, 128), 0);
-    expect("  other than 0 past the places", other_than_0(chain, 2, 12), 0);
+    expect("  other than 0 past the chain", other_than_0(chains, 2, 48), 0);
+    expect("  other than 0 past its places", other_than_0(places, 1, 4), 0);
+}
+
+/* Two chains, and four. */
+static void check_reading_chains(void)
+{
+    expect("the file of two chains", read_file(file_s, 72), 0);
+    expect("  tasks", counts[0], 3);
+    expect("  chains", counts[1], 2);
+    expect("  places of the first", places[0], 2);
+    expect("  places of the second", places[1], 1);
+    expect("  place 1 of the first", chains[0], 1);
+    expect("  place 2 of the first", chains[1], 2);
+    expect("  other than 0 between the chains", other_than_0(chains, 2, 12), 0);
+    expect("  place 1 of the second", chains[12], 3);
+    expect("  other than 0 past the second", other_than_0(chains, 13, 48), 0);
+    expect("  other than 0 past the places", other_than_0(places, 2, 4), 0);
+    memcpy(out, five, 42);
+    memcpy(out + 42, five + 48, 4);
+    expect("the file of four chains", read_file(out, 46), 0);
+    expect("  tasks", counts[0], 1);
+    expect("  chains", counts[1], 4);
+    for (size_t i = 0; i < 4; i++) {
+        expect("  places", places[i], 1);
+        expect("  place 1", chains[12 * i], 1);
+        expect("  other than 0 past it", other_than_0(chains, 12 * i + 1, 12 * i + 12), 0);
+    }
 }
 
 /* Reads `n` bytes of A's file, with one byte changed and five more after the end; they must be refused so. */
@@ -69,8 +127,17 @@ static void refused(const char *what, size_t at, uint8_t byte, size_t n, uint64_
     bytes[at] = byte;
     memcpy(kept, bytes, 53);
     expect(what, read_file(bytes, n), wanted);
-    expect("  other than 0", other_than_0(tasks, 0, 128) + other_than_0(chain, 0, 12) + other_than_0(counts, 0, 2), 0);
+    expect("  other than 0", left_by_reading(), 0);
     expect("  bytes written", memcmp(bytes, kept, 53) != 0, 0);
+}
+
+/* Reads the first `n` bytes of the file of two chains or of five, with one byte changed; they must be refused so. */
+static void refused_chains(const char *what, const uint8_t *file, size_t n, size_t at, uint8_t byte, uint64_t wanted)
+{
+    memcpy(out, file, n);
+    out[at] = byte;
+    expect(what, read_file(out, n), wanted);
+    expect("  other than 0", left_by_reading(), 0);
 }
 
 static void check_refused_reading(void)
@@ -92,18 +159,64 @@ static void check_refused_reading(void)
     refused("task 3 in the chain", 42, 3, 48, CODE(MO_TASK_UNKNOWN, 36));
     expect("the chain first", read_file(file_a + 36, 12), CODE(MO_RECORD_OUT_OF_TURN, 0));
     expect("the end first", read_file(file_a + 44, 4), CODE(MO_RECORD_OUT_OF_TURN, 0));
+    refused_chains("a fifth chain", five, 52, 0, 18, CODE(MO_RECORD_OUT_OF_TURN, 42));
+    refused_chains("a fifth chain with an unknown task", five, 52, 46, 9, CODE(MO_RECORD_OUT_OF_TURN, 42));
+    refused_chains("a fifth chain of a wrong length", five, 52, 42, 7, CODE(MO_RECORD_LENGTH_WRONG, 42));
+    refused_chains("a fifth chain that runs past the file", five, 48, 42, 8, CODE(MO_FILE_ENDS_EARLY, 42));
+    refused_chains("four chains and no end", five, 42, 0, 18, CODE(MO_FILE_ENDS_EARLY, 42));
+    refused_chains("an unknown task in the second of two chains", file_s, 72, 66, 4, CODE(MO_TASK_UNKNOWN, 62));
+    refused_chains("a second chain of no place", file_s, 72, 62, 4, CODE(MO_RECORD_LENGTH_WRONG, 62));
+    refused_chains("a task for the second chain", file_s, 72, 64, 1, CODE(MO_RECORD_LENGTH_WRONG, 62));
+    memcpy(out, file_s, 62);
+    memcpy(out + 62, file_s + 36, 18);
+    expect("a task after a chain", read_file(out, 80), CODE(MO_RECORD_OUT_OF_TURN, 62));
+    memcpy(out + 62, file_s + 62, 6);
+    memcpy(out + 68, file_s + 36, 18);
+    expect("a task after two chains", read_file(out, 86), CODE(MO_RECORD_OUT_OF_TURN, 68));
 }
 
-/* Chain A's schedule. The last task and the last place are no part of it. */
+/* A schedule as it is lent to the calls. */
+struct lent {
+    const uint64_t *tasks;
+    size_t tasks_length, count;
+    const uint64_t *chains;
+    size_t chains_length;
+    const uint64_t *places;
+    size_t places_length, chain_count;
+};
+
+/* Chain A's schedule. The last task, the last place and the second number of places are no part of it. */
 static const uint64_t tasks_a[12] = { 1, 4, 4, 0, 2, 6, 6, 0, 0, UINT64_MAX, 0, 9 };
 static const uint64_t chain_a[3] = { 1, 2, UINT64_MAX };
+static const uint64_t places_a[2] = { 2, UINT64_MAX };
+static const struct lent a = { tasks_a, 12, 2, chain_a, 3, places_a, 2, 1 };
 
-static uint64_t write_file(const uint64_t *list, size_t list_length, size_t count, const uint64_t *numbers, size_t numbers_length,
-                           size_t places, size_t lent)
+/* The schedule of two chains. The lists just hold it: the second chain begins at entry 12, and between lies what is no part of it. */
+static const uint64_t tasks_s[12] = { 1, 4, 4, 0, 2, 6, 6, 0, 3, 10, 3, 5 };
+static const uint64_t chains_s[13] = { 1, 2, 9, 9, 9, 9, 9, 9, 9, 9, 9, UINT64_MAX, 3 };
+static const uint64_t places_s[2] = { 2, 1 };
+static const struct lent s = { tasks_s, 12, 3, chains_s, 13, places_s, 2, 2 };
+
+static uint64_t write_file(struct lent l, size_t lent)
 {
     memset(out, RUBBISH, sizeof out);
     length = RUBBISH;
-    return mo_write_file(list, list_length, count, numbers, numbers_length, places, out, lent, &length);
+    return mo_write_file(l.tasks, l.tasks_length, l.count, l.chains, l.chains_length, l.places, l.places_length, l.chain_count, out, lent,
+                         &length);
+}
+
+static uint64_t chain_of_schedule(struct lent l, size_t number)
+{
+    memset(flat, 0xff, sizeof flat);
+    chain_places = RUBBISH;
+    return mo_chain_of_schedule(l.tasks, l.tasks_length, l.count, l.chains, l.chains_length, l.places, l.places_length, l.chain_count, number,
+                                flat, &chain_places);
+}
+
+/* What reading left in the arrays. */
+static struct lent read_schedule(void)
+{
+    return (struct lent){ tasks, 128, counts[0], chains, 48, places, 4, counts[1] };
 }
 
 /* The bytes of out from one on that are no longer rubbish. */
@@ -116,17 +229,30 @@ static uint64_t written_from(size_t from)
     return found;
 }
 
+static void written(const char *what, struct lent l, size_t lent, const uint8_t *file, size_t n)
+{
+    expect(what, write_file(l, lent), 0);
+    expect("  its length", length, n);
+    expect("  other bytes than the file's", memcmp(out, file, n) != 0, 0);
+    expect("  bytes written past it", written_from(n), 0);
+}
+
 static void check_writing(void)
 {
+    static const uint64_t one[4] = { 1, 4, 4, 0 };
+    static const uint64_t ones[37] = { [0] = 1, [12] = 1, [24] = 1, [36] = 1 };
+    static const uint64_t places_of_ones[4] = { 1, 1, 1, 1 };
+    uint8_t file[46];
+
     read_file(file_a, 48);
-    expect("A's file again", write_file(tasks, 128, counts[0], chain, 12, counts[1], 64), 0);
-    expect("  its length", length, 48);
-    expect("  other bytes than the file's", memcmp(out, file_a, 48) != 0, 0);
-    expect("  bytes written past it", written_from(48), 0);
-    expect("A's schedule into just 48 bytes", write_file(tasks_a, 12, 2, chain_a, 3, 2, 48), 0);
-    expect("  its length", length, 48);
-    expect("  other bytes than the file's", memcmp(out, file_a, 48) != 0, 0);
-    expect("  bytes written past it", written_from(48), 0);
+    written("A's file again", read_schedule(), 64, file_a, 48);
+    written("A's schedule into just 48 bytes", a, 48, file_a, 48);
+    read_file(file_s, 72);
+    written("the file of two chains again", read_schedule(), 96, file_s, 72);
+    written("two chains from lists that just hold them", s, 72, file_s, 72);
+    memcpy(file, five, 42);
+    memcpy(file + 42, five + 48, 4);
+    written("four chains", (struct lent){ one, 4, 1, ones, 37, places_of_ones, 4, 4 }, 46, file, 46);
 }
 
 static void not_written(const char *what, uint64_t code, uint64_t wanted)
@@ -136,42 +262,116 @@ static void not_written(const char *what, uint64_t code, uint64_t wanted)
     expect("  bytes written", written_from(0), 0);
 }
 
-static void check_refused_writing(void)
+/* Neither written nor any chain of it chosen. */
+static void refused_schedule(const char *what, struct lent l, uint64_t wanted)
+{
+    static const size_t numbers[5] = { 1, 2, 0, 9, SIZE_MAX };
+
+    not_written(what, write_file(l, 96), wanted);
+    for (size_t i = 0; i < 5; i++) {
+        expect("  the chain of a number", chain_of_schedule(l, numbers[i]), wanted);
+        expect("  its numbers and its places", other_than_0(flat, 0, 36) + chain_places, 0);
+    }
+}
+
+static void check_refused_schedules(void)
 {
     static const uint64_t falling[8] = { 2, 6, 6, 0, 1, 4, 4, 0 };
     static const uint64_t wide[8] = { 1, 4, 4, 0, 65536, 6, 6, 0 };
     static const uint64_t strange[2] = { 1, UINT64_MAX };
     static const uint64_t many[132] = { 0 };
+    static const uint64_t thirteen[1] = { 13 };
+    static const uint64_t none[1] = { 0 };
+    static const uint64_t endless[2] = { 2, UINT64_MAX };
+    /* The chains 1; 1 9; 1 of the first task alone, and the chains 9 and thirteen times 1. */
+    static const uint64_t second[25] = { [0] = 1, [12] = 1, [13] = 9, [24] = 1 };
+    static const uint64_t places_second[3] = { 1, 2, 1 };
+    static const uint64_t long_second[25] = { [0] = 9, [12] = 1, 1, 1, 1, 1, 1, 1, 1, 1, 1, 1, 1, 1 };
+    static const uint64_t places_long[2] = { 1, 13 };
+    uint64_t ones[60];
 
-    not_written("no tasks", write_file(tasks_a, 12, 0, chain_a, 3, 2, 64), MO_PLACES_OUTSIDE_LIMITS);
-    not_written("33 tasks", write_file(many, 132, 33, chain_a, 3, 2, 64), MO_PLACES_OUTSIDE_LIMITS);
-    not_written("no places", write_file(tasks_a, 12, 2, chain_a, 3, 0, 64), MO_PLACES_OUTSIDE_LIMITS);
-    not_written("13 places", write_file(tasks_a, 12, 2, many, 13, 13, 64), MO_PLACES_OUTSIDE_LIMITS);
-    not_written("more tasks than the list holds", write_file(tasks_a, 8, 3, chain_a, 3, 2, 64), MO_PLACES_OUTSIDE_LIMITS);
-    not_written("a list of no whole tasks", write_file(tasks_a, 11, 2, chain_a, 3, 2, 64), MO_PLACES_OUTSIDE_LIMITS);
-    not_written("more places than the list holds", write_file(tasks_a, 12, 2, chain_a, 1, 2, 64), MO_PLACES_OUTSIDE_LIMITS);
-    not_written("a third task of number 0", write_file(tasks_a, 12, 3, chain_a, 3, 2, 64), CODE(MO_TASK_OUTSIDE_LIMITS, 3));
-    not_written("falling task numbers", write_file(falling, 8, 2, chain_a, 3, 2, 64), CODE(MO_TASK_OUTSIDE_LIMITS, 2));
-    not_written("task number 65,536", write_file(wide, 8, 2, chain_a, 3, 2, 64), CODE(MO_TASK_OUTSIDE_LIMITS, 2));
-    not_written("a number in the chain that no task has", write_file(tasks_a, 12, 2, strange, 2, 2, 64), CODE(MO_TASK_UNKNOWN, 2));
-    not_written("a task that is not counted", write_file(tasks_a, 12, 1, chain_a, 3, 2, 64), CODE(MO_TASK_UNKNOWN, 2));
-    not_written("one byte too few", write_file(tasks_a, 12, 2, chain_a, 3, 2, 47), MO_LISTS_TOO_SHORT);
-    not_written("no bytes lent", write_file(tasks_a, 12, 2, chain_a, 3, 2, 0), MO_LISTS_TOO_SHORT);
+    for (size_t i = 0; i < 60; i++)
+        ones[i] = 1;
+    refused_schedule("no tasks", (struct lent){ tasks_a, 12, 0, chain_a, 3, places_a, 2, 1 }, MO_PLACES_OUTSIDE_LIMITS);
+    refused_schedule("33 tasks", (struct lent){ many, 132, 33, chain_a, 3, places_a, 2, 1 }, MO_PLACES_OUTSIDE_LIMITS);
+    refused_schedule("no chain", (struct lent){ tasks_a, 12, 2, chain_a, 3, places_a, 2, 0 }, MO_PLACES_OUTSIDE_LIMITS);
+    refused_schedule("five chains", (struct lent){ tasks_a, 12, 2, ones, 60, ones, 60, 5 }, MO_PLACES_OUTSIDE_LIMITS);
+    refused_schedule("no places", (struct lent){ tasks_a, 12, 2, chain_a, 3, none, 1, 1 }, MO_PLACES_OUTSIDE_LIMITS);
+    refused_schedule("13 places", (struct lent){ tasks_a, 12, 2, ones, 60, thirteen, 1, 1 }, MO_PLACES_OUTSIDE_LIMITS);
+    refused_schedule("an unknown task in the first chain, 13 places in the second",
+                     (struct lent){ tasks_a, 12, 1, long_second, 25, places_long, 2, 2 }, MO_PLACES_OUTSIDE_LIMITS);
+    refused_schedule("more tasks than the list holds", (struct lent){ tasks_a, 8, 3, chain_a, 3, places_a, 2, 1 }, MO_PLACES_OUTSIDE_LIMITS);
+    refused_schedule("a list of no whole tasks", (struct lent){ tasks_a, 11, 2, chain_a, 3, places_a, 2, 1 }, MO_PLACES_OUTSIDE_LIMITS);
+    refused_schedule("more places than the list holds", (struct lent){ tasks_a, 12, 2, chain_a, 1, places_a, 2, 1 }, MO_PLACES_OUTSIDE_LIMITS);
+    refused_schedule("more places of the second chain than the list holds",
+                     (struct lent){ tasks_s, 12, 3, chains_s, 12, places_s, 2, 2 }, MO_PLACES_OUTSIDE_LIMITS);
+    refused_schedule("a second chain of more places than there are numbers",
+                     (struct lent){ tasks_s, 12, 3, chains_s, 13, endless, 2, 2 }, MO_PLACES_OUTSIDE_LIMITS);
+    refused_schedule("more chains than the list of places holds",
+                     (struct lent){ tasks_s, 12, 3, chains_s, 13, places_s, 1, 2 }, MO_PLACES_OUTSIDE_LIMITS);
+    refused_schedule("empty lists", (struct lent){ tasks_s, 0, 3, chains_s, 0, places_s, 0, 2 }, MO_PLACES_OUTSIDE_LIMITS);
+    refused_schedule("a third task of number 0", (struct lent){ tasks_a, 12, 3, chain_a, 3, places_a, 2, 1 }, CODE(MO_TASK_OUTSIDE_LIMITS, 3));
+    refused_schedule("falling task numbers", (struct lent){ falling, 8, 2, chain_a, 3, places_a, 2, 1 }, CODE(MO_TASK_OUTSIDE_LIMITS, 2));
+    refused_schedule("task number 65,536", (struct lent){ wide, 8, 2, chain_a, 3, places_a, 2, 1 }, CODE(MO_TASK_OUTSIDE_LIMITS, 2));
+    refused_schedule("a number in the chain that no task has",
+                     (struct lent){ tasks_a, 12, 2, strange, 2, places_a, 2, 1 }, CODE(MO_TASK_UNKNOWN, 2));
+    refused_schedule("a task that is not counted", (struct lent){ tasks_a, 12, 1, chain_a, 3, places_a, 2, 1 }, CODE(MO_TASK_UNKNOWN, 2));
+    refused_schedule("an unknown task in the second of three chains",
+                     (struct lent){ tasks_a, 12, 1, second, 25, places_second, 3, 3 }, CODE(MO_TASK_UNKNOWN, 2));
+    not_written("one byte too few", write_file(a, 47), MO_LISTS_TOO_SHORT);
+    not_written("one byte too few for two chains", write_file(s, 71), MO_LISTS_TOO_SHORT);
+    not_written("no bytes lent", write_file(a, 0), MO_LISTS_TOO_SHORT);
 }
 
-/* From A's file to A's table. */
-static void check_table(void)
+/* The chain of that number: its T, D, F, and 0 past them. */
+static void chosen(const char *what, struct lent l, size_t number, const uint64_t *wanted, size_t n)
 {
-    static const uint64_t wanted[6] = { 4, 4, 0, 6, 6, 0 };
-    uint64_t flat[36], starts[4], latencies[4], figures[4];
-
-    read_file(file_a, 48);
-    memset(flat, 0xff, sizeof flat);
-    expect("A's places", mo_chain_of_schedule(tasks, 128, counts[0], chain, 12, counts[1], flat), 2);
-    for (size_t i = 0; i < 6; i++)
+    expect(what, chain_of_schedule(l, number), 0);
+    expect("  its places", chain_places, n);
+    for (size_t i = 0; i < 3 * n; i++)
         expect("  T, D or F", flat[i], wanted[i]);
-    expect("  other than 0 past them", other_than_0(flat, 6, 36), 0);
-    expect("A's table", mo_make_table(flat, 36, 2, 2, starts, 4, latencies, 4, figures), 0);
+    expect("  other than 0 past them", other_than_0(flat, 3 * n, 36), 0);
+}
+
+/* A number that no chain has; what is given then is no chain to any call. */
+static void not_chosen(const char *what, struct lent l, size_t number)
+{
+    uint64_t hyperperiod;
+
+    expect(what, chain_of_schedule(l, number), MO_CHAIN_UNKNOWN);
+    expect("  its numbers and its places", other_than_0(flat, 0, 36) + chain_places, 0);
+    expect("  its check", mo_check(flat, 36, chain_places, &hyperperiod), MO_PLACES_OUTSIDE_LIMITS);
+}
+
+static void check_choosing(void)
+{
+    static const uint64_t first[6] = { 4, 4, 0, 6, 6, 0 };
+    static const uint64_t second[3] = { 10, 3, 5 };
+
+    chosen("A's chain", a, 1, first, 2);
+    not_chosen("chain 0 of A", a, 0);
+    not_chosen("chain 2 of A", a, 2);
+    chosen("chain 1 of two", s, 1, first, 2);
+    chosen("chain 2 of two", s, 2, second, 1);
+    not_chosen("chain 3 of two", s, 3);
+    not_chosen("the largest number", s, SIZE_MAX);
+    memcpy(out, five, 42);
+    memcpy(out + 42, five + 48, 4);
+    read_file(out, 46);
+    for (size_t number = 1; number <= 4; number++)
+        chosen("a chain of four", read_schedule(), number, first, 1);
+    not_chosen("chain 0 of four", read_schedule(), 0);
+    not_chosen("chain 5 of four", read_schedule(), 5);
+}
+
+/* From the file of two chains to the table of each. */
+static void check_tables(void)
+{
+    uint64_t starts[4], latencies[4], figures[4];
+
+    read_file(file_s, 72);
+    expect("chain 1", chain_of_schedule(read_schedule(), 1), 0);
+    expect("its table", mo_make_table(flat, 36, chain_places, 2, starts, 4, latencies, 4, figures), 0);
     expect("  anchors", figures[0], 2);
     expect("  warm-up tick", figures[1], 0);
     expect("  hyperperiod", figures[2], 12);
@@ -180,38 +380,24 @@ static void check_table(void)
     expect("  latency", latencies[0], 18);
     expect("  start", starts[1], 8);
     expect("  latency", latencies[1], 16);
-}
-
-/* What is no chain is refused where it is analysed. */
-static void check_no_chain(void)
-{
-    static const uint64_t strange[2] = { 1, 3 };
-    static const uint64_t many[13] = { 1, 1, 1, 1, 1, 1, 1, 1, 1, 1, 1, 1, 1 };
-    uint64_t flat[36], hyperperiod, places;
-
-    places = mo_chain_of_schedule(tasks_a, 12, 2, strange, 2, 2, flat);
-    expect("a number that no task has, its places", places, 2);
-    expect("  its T, D, F", other_than_0(flat, 3, 36), 0);
-    expect("  its check", mo_check(flat, 36, places, &hyperperiod), CODE(MO_TASK_OUTSIDE_LIMITS, 2));
-    places = mo_chain_of_schedule(tasks_a, 8, 3, chain_a, 3, 2, flat);
-    expect("more tasks than the list holds, its places", places, 2);
-    expect("  its check", mo_check(flat, 36, places, &hyperperiod), CODE(MO_TASK_OUTSIDE_LIMITS, 1));
-    places = mo_chain_of_schedule(tasks_a, 12, 2, chain_a, 1, 2, flat);
-    expect("more places than the list holds, its places", places, 0);
-    expect("  its T, D, F", other_than_0(flat, 0, 36), 0);
-    expect("  its check", mo_check(flat, 36, places, &hyperperiod), MO_PLACES_OUTSIDE_LIMITS);
-    places = mo_chain_of_schedule(tasks_a, 12, 2, many, 13, 13, flat);
-    expect("13 places", places, 13);
-    expect("  its check", mo_check(flat, 36, places, &hyperperiod), MO_PLACES_OUTSIDE_LIMITS);
+    expect("chain 2", chain_of_schedule(read_schedule(), 2), 0);
+    expect("its table", mo_make_table(flat, 36, chain_places, 1, starts, 4, latencies, 4, figures), 0);
+    expect("  anchors", figures[0], 1);
+    expect("  warm-up tick", figures[1], 5);
+    expect("  hyperperiod", figures[2], 10);
+    expect("  walked", figures[3], 1);
+    expect("  start", starts[0], 5);
+    expect("  latency", latencies[0], 13);
 }
 
 int main(void)
 {
     check_reading();
+    check_reading_chains();
     check_refused_reading();
     check_writing();
-    check_refused_writing();
-    check_table();
-    check_no_chain();
+    check_refused_schedules();
+    check_choosing();
+    check_tables();
     return counted();
 }

@@ -1,5 +1,6 @@
 /*
- * The report of a schedule file through the header, held to document 01's text for chain A. tests/c/run builds and runs it.
+ * The report of a schedule file through the header, held to the text for chain A, for two chains and for a refused chain before another.
+ * tests/c/run builds and runs it.
  */
 #include "meshorchard.h"
 
@@ -17,18 +18,40 @@ static const uint8_t file_a[48] = {
     8, 0, 2, 0, 1, 0, 2, 0,
     4, 0, 3, 0,
 };
-static const char text_a[] = "warm 0\nhyper 12\nanchors 2\na 0 18\na 8 16\nmax 18\nlow 10\nmean 174 12\nwalked 2\n";
+#define TEXT_A "chain 1\nwarm 0\nhyper 12\nanchors 2\na 0 18\na 8 16\nmax 18\nlow 10\nmean 174 12\nwalked 2\n"
+
+/* Two chains, 1 2 and 3, of tasks (4, 4, 0), (6, 6, 0) and (10, 3, 5). */
+static const uint8_t file_s[72] = {
+    18, 0, 1, 0, 1, 0, 4, 0, 0, 0, 4, 0, 0, 0, 0, 0, 0, 0,
+    18, 0, 1, 0, 2, 0, 6, 0, 0, 0, 6, 0, 0, 0, 0, 0, 0, 0,
+    18, 0, 1, 0, 3, 0, 10, 0, 0, 0, 3, 0, 0, 0, 5, 0, 0, 0,
+    8, 0, 2, 0, 1, 0, 2, 0,
+    6, 0, 2, 0, 3, 0,
+    4, 0, 3, 0,
+};
+#define TEXT_S TEXT_A "chain 2\nwarm 5\nhyper 10\nanchors 1\na 5 13\nmax 13\nlow 3\nmean 85 10\nwalked 1\n"
+
+/* The same chains of tasks (769, 1, 0), (78125, 1, 0) and (7, 1, 0): the hyperperiod of the first is above the limit. */
+static const uint8_t file_refused[72] = {
+    18, 0, 1, 0, 1, 0, 1, 3, 0, 0, 1, 0, 0, 0, 0, 0, 0, 0,
+    18, 0, 1, 0, 2, 0, 45, 49, 1, 0, 1, 0, 0, 0, 0, 0, 0, 0,
+    18, 0, 1, 0, 3, 0, 7, 0, 0, 0, 1, 0, 0, 0, 0, 0, 0, 0,
+    8, 0, 2, 0, 1, 0, 2, 0,
+    6, 0, 2, 0, 3, 0,
+    4, 0, 3, 0,
+};
+#define TEXT_SECOND "warm 0\nhyper 7\nanchors 1\na 0 8\nmax 8\nlow 1\nmean 35 7\nwalked 1\n"
 
 static uint8_t out[MO_LONGEST_REPORT];
 
-/* The report of the first n bytes of A's file into the first `lent` bytes of out; it must answer the text's length and leave its front. */
-static void check(const char *what, size_t n, size_t lent, const char *text)
+/* The report of the first n bytes of a file into the first `lent` bytes of out; it must answer the text's length and leave its front. */
+static void check(const char *what, const uint8_t *file, size_t n, size_t lent, const char *text)
 {
     size_t length = strlen(text), held = length < lent ? length : lent;
     uint64_t past = 0;
 
     memset(out, RUBBISH, sizeof out);
-    expect(what, mo_report(file_a, n, out, lent), length);
+    expect(what, mo_report(file, n, out, lent), length);
     expect("  the text's front differs", memcmp(out, text, held) != 0, 0);
     for (size_t i = held; i < sizeof out; i++)
         past += out[i] != RUBBISH;
@@ -37,11 +60,20 @@ static void check(const char *what, size_t n, size_t lent, const char *text)
 
 int main(void)
 {
-    check("A's file", 48, sizeof out, text_a);
-    check("just the bytes of the text", 48, strlen(text_a), text_a);
-    check("a byte too few", 48, strlen(text_a) - 1, text_a);
-    check("no bytes lent", 48, 0, text_a);
-    check("a file that ends early", 47, sizeof out, "refused 1 44\n");
-    check("no bytes in the file", 0, sizeof out, "refused 1 0\n");
+    check("A's file", file_a, 48, sizeof out, TEXT_A);
+    check("just the bytes of the text", file_a, 48, strlen(TEXT_A), TEXT_A);
+    check("a byte too few", file_a, 48, strlen(TEXT_A) - 1, TEXT_A);
+    check("no bytes lent", file_a, 48, 0, TEXT_A);
+    check("a file that ends early", file_a, 47, sizeof out, "refused 1 44\n");
+    check("no bytes in the file", file_a, 0, sizeof out, "refused 1 0\n");
+    check("the file of two chains", file_s, 72, sizeof out, TEXT_S);
+    check("  just the bytes of the text", file_s, 72, strlen(TEXT_S), TEXT_S);
+    check("  bytes that end inside the first chain's text", file_s, 72, 20, TEXT_S);
+    check("  bytes that end with it", file_s, 72, strlen(TEXT_A), TEXT_S);
+    check("  bytes that end inside the line of the second chain", file_s, 72, strlen(TEXT_A) + 3, TEXT_S);
+    check("  bytes that end inside its text", file_s, 72, strlen(TEXT_S) - 1, TEXT_S);
+    check("  without its end", file_s, 68, sizeof out, "refused 1 68\n");
+    check("a refused chain before another", file_refused, 72, sizeof out, "chain 1\nrefused 7 0\nchain 2\n" TEXT_SECOND);
+    check("  bytes that end inside the refusal", file_refused, 72, 15, "chain 1\nrefused 7 0\nchain 2\n" TEXT_SECOND);
     return counted();
 }

@@ -35,10 +35,10 @@ static size_t depth(void (*f)(void))
 
 /* ---- what the calls are given: twelve places, long numbers, and every way that ends late */
 
-static uint64_t tasks[36], flat[36], numbered[128], chain[12], jobs[12], counts[2], figures[4];
+static uint64_t tasks[36], flat[36], numbered[128], chains[48], places[4], jobs[12], counts[2], figures[4], both[4];
 static uint64_t starts[1024], latencies[1024];
 static uint64_t a, b;
-static uint8_t file[608], text[MO_LONGEST_REPORT];
+static uint8_t file[692], text[MO_LONGEST_REPORT];
 static size_t file_length;
 
 static void put(uint64_t value, int bytes)
@@ -49,8 +49,8 @@ static void put(uint64_t value, int bytes)
     }
 }
 
-/* Thirty-two tasks and a chain of twelve places: the longest file. The hyperperiod is the greatest there is, and the durations too, so that
- * the sum of the mean has as many digits as any: a number is written by a call for each digit. */
+/* Thirty-two tasks and four chains of twelve places: the longest file. The hyperperiods, also that of two chains together, are the greatest
+ * there is, and the durations too, so that the sum of the mean has as many digits as any: a number is written by a call for each digit. */
 static void prepare(void)
 {
     for (size_t i = 0; i < 32; i++) {
@@ -58,12 +58,16 @@ static void prepare(void)
         memcpy(numbered + 4 * i, task, sizeof task);
         put(18, 2), put(1, 2), put(task[0], 2), put(task[1], 4), put(task[2], 4), put(task[3], 4);
     }
-    put(28, 2), put(2, 2);
-    for (size_t i = 0; i < 12; i++) {
-        chain[i] = 65020 + i;
-        put(chain[i], 2);
-        memcpy(tasks + 3 * i, numbered + 4 * (20 + i) + 1, 3 * sizeof *tasks);
+    for (size_t c = 0; c < 4; c++) {
+        places[c] = 12;
+        put(28, 2), put(2, 2);
+        for (size_t i = 0; i < 12; i++) {
+            chains[12 * c + i] = 65020 - 5 * c + i;
+            put(chains[12 * c + i], 2);
+        }
     }
+    for (size_t i = 0; i < 12; i++)
+        memcpy(tasks + 3 * i, numbered + 4 * (20 + i) + 1, 3 * sizeof *tasks);
     put(4, 2), put(3, 2);
 }
 
@@ -88,9 +92,10 @@ static void mean(void) { mo_mean(starts, 1024, latencies, 1024, figures[0], figu
 static void throughput(void) { mo_throughput(starts, 1024, latencies, 1024, figures[0], figures[2], &a, &b); }
 static void exceedance(void) { mo_exceedance(starts, 1024, latencies, 1024, figures[0], figures[2], 48000000, &a, &b); }
 static void windows(void) { mo_windows(tasks, 36, 12, 48000000, 100, &a, &b); }
-static void read_file(void) { mo_read_file(file, file_length, numbered, chain, counts); }
-static void write_file(void) { mo_write_file(numbered, 128, 32, chain, 12, 12, text, sizeof text, &a); }
-static void chain_of_schedule(void) { mo_chain_of_schedule(numbered, 128, 32, chain, 12, 12, flat); }
+static void read_file(void) { mo_read_file(file, file_length, numbered, chains, places, counts); }
+static void write_file(void) { mo_write_file(numbered, 128, 32, chains, 48, places, 4, 4, text, sizeof text, &a); }
+static void chain_of_schedule(void) { mo_chain_of_schedule(numbered, 128, 32, chains, 48, places, 4, 4, 4, flat, &b); }
+static void bookings(void) { mo_bookings(numbered, 128, 32, chains, 48, places, 4, 4, 1, 4, 999999999999u, both); }
 static void report(void) { a = mo_report(file, file_length, text, sizeof text); }
 
 /* A call's depth below that of an empty function is at most what the header says, and not much less. */
@@ -111,7 +116,7 @@ static void held(const char *what, void (*f)(void), size_t said)
 int main(void)
 {
     prepare();
-    expect("bytes of the file", file_length, 608);
+    expect("bytes of the file", file_length, 692);
     held("mo_check", check, MO_STACK_CHECK);
     held("mo_warm_up", warm_up, MO_STACK_WARM_UP);
     held("mo_delay", delay, MO_STACK_DELAY);
@@ -128,8 +133,11 @@ int main(void)
     held("mo_windows", windows, MO_STACK_WINDOWS);
     held("mo_read_file", read_file, MO_STACK_READ_FILE);
     held("mo_write_file", write_file, MO_STACK_WRITE_FILE);
-    expect("file written", a, 608);
+    expect("file written", a, 692);
     held("mo_chain_of_schedule", chain_of_schedule, MO_STACK_CHAIN_OF_SCHEDULE);
+    expect("places of the chain", b, 12);
+    held("mo_bookings", bookings, MO_STACK_BOOKINGS);
+    expect("bookings, and not a refusal", both[0] > 999999999999u, 1);
     held("mo_report", report, MO_STACK_REPORT);
     expect("digits of the sum", mean_digits(), 16);
     return counted();
