@@ -3,3 +3,4 @@ pub mod Standing
 pub mod Stretches
 pub mod EveryPress
 pub mod Survey
+pub mod Answered

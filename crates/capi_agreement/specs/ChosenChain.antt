@@ -1,10 +1,10 @@
 -- mo_chain_of_schedule and the calls on chains that take flat, 36 and chain_places: from code 0 they get the chain with that number (`chosen-for-c`), which only 7 can refuse (`chosen-checked`);
 -- from any other code every one of them refuses with 8 (`not-chosen`), also where a caller does not look at the code. Of a file that is read, each number up to the count of chains is chosen (`read-then-chosen`).
-use Prim.Native.Nat.{ℕ, _≤_, _<_}
+use Prim.Native.Nat.{ℕ, _*_, _≤_}
 use native.Mathlib.Omega.{arith}
-use mathlib.Core.Path.{_≡_, refl, sym, ap, _∙_}
+use mathlib.Core.Path.{_≡_, sym, ap, _∙_, subst}
 use mathlib.Core.List.{List, [], _∷_, map}
-use lib.ListN.{length, getD, replicate}
+use lib.ListN.{length, getD, take, replicate}
 use Rattle.refusal.specs.declared.Refusal.{Refusal}
 use Rattle.refusal.specs.Refusals.{refusal, none, codeOf}
 use Rattle.chain.specs.declared.Chain.{Chain}
@@ -20,7 +20,8 @@ use Rattle.schedule.specs.Schedules.{chainAt}
 use Rattle.schedule_checks.specs.declared.Chosen.{Chosen}
 use Rattle.schedule_checks.specs.Checks.{choiceOf, chosenOf}
 use Rattle.schedule_checks.specs.SoundSchedule.{SoundSchedule}
-use Rattle.schedule_checks.specs.SoundChain.{sound-placed, sound-chain, chain-at-twelve}
+use Rattle.schedule_checks.specs.SoundChain.{sound-twelve, sound-placed, sound-chain}
+use Rattle.schedule_checks.specs.SameSchedule.{SameSchedule, chain-same, choice-same}
 use Rattle.schedule_checks.specs.ChosenChain.{chosen-chain, none-chosen, choice-sound, choice-there}
 use Rattle.file_reader.specs.Reading.{readFile}
 use Rattle.round_trip.specs.RoundTrips.{read-arrays, read-sound, read-places}
@@ -35,11 +36,11 @@ use Rattle.capi_timing.specs.Calls.{verdictCode, verdictHyper, spanCode, spanTi
 use Rattle.capi_maker.specs.Calls.{madeCode, madeNumbers, GivesTable}
 use Rattle.capi_windows.specs.Calls.{windowNumbers, GivesWindows}
 use Rattle.capi_file.specs.Calls.{GivesSchedule, GivesChain}
-use Rattle.capi_file.specs.RoundTrips.{given-schedule}
+use Rattle.capi_file.specs.RoundTrips.{given-schedule, same-given}
 use Rattle.capi_chain.specs.FlatChain.{placesOf, chainFrom}
 use Rattle.capi_chain.specs.Front.{chain-given-back, chain-count, places-given}
-use Rattle.capi_schedule.specs.FlatSchedule.{scheduleFrom}
-use Rattle.capi_schedule.specs.GivenBack.{from-arrays}
+use Rattle.capi_schedule.specs.FlatSchedule.{countFrom, heldFrom, scheduleFrom}
+use Rattle.capi_schedule.specs.GivenBack.{from-arrays, SameChains}
 
 -- ---- a refused chain is refused by every call on chains, with the same refusal, zeros in every number lent, and lists as they were
 
@@ -76,10 +77,7 @@ refused-by-all c r e = record {
     span-refused from t span code ticks g =
         (g .0 ∙ ap (λ (x : Verdict). spanCode (spanAfter x from t span)) e, g .1 ∙ ap (λ (x : Verdict). spanTicks (spanAfter x from t span)) e)
 
--- ---- where a schedule has no chain
-
--- What mo_chain_of_schedule gives, by its contract.
--- no places are refused
+-- a chain of no places has none from its list
 no-places : (flat : List ℕ) (held : ℕ) → held ≡ 0 → 1 ≤ chainFrom flat held .places → ⊥
 no-places flat held e g =
     let n = chain-count flat held in
@@ -110,7 +108,7 @@ module _ (tasks : List ℕ) (count : ℕ) (chains places : List ℕ) (total numb
         let k = in-schedule in
         let p = sound-placed s a (k .0) number (k .1) (k .2) in
         same ∙ ap (λ (c : Chain). chainFrom (flatChain (c .tasks)) (c .places)) (chosen-chain s number zero-number)
-        ∙ chain-given-back (chainAt s number) (chain-at-twelve s a number (k .1) (omega (arith, k .2, k .0 .few-chains))) (p .1)
+        ∙ chain-given-back (chainAt s number) (sound-twelve s a (k .0) number (k .1) (k .2)) (p .1)
 
     -- and of its checks only 7 can refuse it.
     pub chosen-checked : verdictOf (chainFrom flat held) ≡ hyperVerdict (tasksOf (chainFrom flat held))
@@ -129,8 +127,10 @@ module _ (tasks : List ℕ) (count : ℕ) (chains places : List ℕ) (total numb
       let e : held ≡ 0 = gives .gives-places ∙ ap (λ (c : Chosen). c .chain .places) (none-chosen s number n) in
       refused-by-all (chainFrom flat held) (refusal 8 0) (eight (chainFrom flat held .places) (tasksOf (chainFrom flat held)) (λ g. absurd (no-places flat held e g)))
 
--- Of a file that is read, with the lists and counts that were got: each number from 1 to the count of chains is chosen, and gives that chain of the file's schedule.
-module _ (b : List ℕ) (is : Bytes b) (code : ℕ) (ts ch pl : List ℕ) (n m : ℕ) (reads : GivesSchedule (readFile b) code ts ch pl (n ∷ m ∷ [])) (fine : code ≡ 0) where
+-- Of a file that is read: each number from 1 to the count of chains is chosen, and gives that chain of the file's schedule.
+-- n and m are the counts that were got. us, vs and ws hold the numbers that were got, as lists of any length that the counts fit, as in `rewritten-for-c`.
+module _ (b : List ℕ) (is : Bytes b) (code : ℕ) (ts ch pl : List ℕ) (n m : ℕ) (reads : GivesSchedule (readFile b) code ts ch pl (n ∷ m ∷ [])) (fine : code ≡ 0)
+    (us vs ws : List ℕ) (count : countFrom (length us) n ≡ n) (tasks : take (4 * n) us ≡ take (4 * n) ts) (chained : heldFrom (length ws) m ≡ m) (chains : SameChains m ch pl vs ws) where
   number-zero : readFile b .refusal .number ≡ 0
   number-zero = omega (arith, reads .answers)
 
@@ -140,10 +140,14 @@ module _ (b : List ℕ) (is : Bytes b) (code : ℕ) (ts ch pl : List ℕ) (n m :
   got : scheduleFrom ts n ch pl m ≡ readFile b .schedule
   got = given-schedule (readFile b) code ts ch pl (n ∷ m ∷ []) reads (read-arrays b is number-zero) (sound-read .few) (sound-read .few-chains) (read-places b is number-zero)
 
-  pub read-then-chosen : (number : ℕ) → 1 ≤ number → number ≤ m → (code′ : ℕ) (flat : List ℕ) (held : ℕ) → GivesChain (scheduleFrom ts n ch pl m) number code′ flat held
+  -- what is chosen is looked for in the same schedule
+  same-read : SameSchedule (scheduleFrom us n vs ws m) (readFile b .schedule)
+  same-read = subst (SameSchedule (scheduleFrom us n vs ws m)) got (same-given b is code ts ch pl n m reads fine us vs ws count tasks chained chains)
+
+  pub read-then-chosen : (number : ℕ) → 1 ≤ number → number ≤ m → (code′ : ℕ) (flat : List ℕ) (held : ℕ) → GivesChain (scheduleFrom us n vs ws m) number code′ flat held
       → (code′ ≡ 0) × (chainFrom flat held ≡ chainAt (readFile b .schedule) number)
   read-then-chosen number low high code′ flat held gives =
       let c : m ≡ readFile b .schedule .chains = ap (λ (l : List ℕ). getD l 1 0) (reads .gives-counts) in
       let z : choiceOf (readFile b .schedule) number ≡ none = choice-there (readFile b .schedule) number sound-read low (omega arith) in
-      let k : code′ ≡ 0 = gives .answers ∙ ap (λ (x : Schedule). codeOf (choiceOf x number)) got ∙ ap codeOf z in
-      (k, chosen-for-c ts n ch pl m number code′ flat held gives k ∙ ap (λ (x : Schedule). chainAt x number) got)
+      let k : code′ ≡ 0 = gives .answers ∙ ap codeOf (choice-same (scheduleFrom us n vs ws m) (readFile b .schedule) same-read number ∙ z) in
+      (k, chosen-for-c us n vs ws m number code′ flat held gives k ∙ chain-same (scheduleFrom us n vs ws m) (readFile b .schedule) same-read number)

@@ -6,7 +6,7 @@ use mathlib.Core.Path.{_≡_, refl, sym, ap, _∙_}
 use mathlib.Core.Bool.{Bool, true, false, cond}
 use mathlib.Core.List.{List, [], _∷_, _++_, map}
 use lib.Dec.{leb, eqb}
-use lib.ListN.{length, getD, take, drop, length-map}
+use lib.ListN.{length, getD, take, drop}
 use lib.Seq.{take-at, getD-take, length-take-le}
 use borrow.Author.Tests.{eqb-false}
 use Rattle.refusal.specs.Refusals.{refusal, none}
@@ -15,9 +15,9 @@ use Rattle.chain.specs.Entries.{entries-length, entries-at}
 use Rattle.schedule.specs.declared.NumberedTask.{NumberedTask}
 use Rattle.schedule.specs.declared.Route.{Route}
 use Rattle.schedule.specs.declared.Schedule.{Schedule}
-use Rattle.schedule.specs.Schedules.{tasksIn, placesOf, countOf, routesIn, chainsIn, noRoute, emptyRoute, routeOf, zeroNumbered}
+use Rattle.schedule.specs.Schedules.{tasksIn, placesOf, countOf, chainsIn, noRoute, routeOf, zeroNumbered}
 use Rattle.schedule.specs.Arrays.{Arrays}
-use Rattle.schedule.specs.Padding.{length-padded, take-padded, padded-at}
+use Rattle.schedule.specs.Padding.{take-padded, padded-at}
 use Rattle.schedule_checks.specs.Checks.{faultOf}
 use Rattle.schedule_checks.specs.SoundSchedule.{SoundSchedule, placed-front}
 use Rattle.schedule_checks.specs.SameSchedule.{SameSchedule, fault-same}
@@ -30,8 +30,8 @@ use Rattle.file_writer.specs.FileBytes.{fileOf, fileBytes}
 use Rattle.file_writer.specs.Writing.{lengthVerdict, leftBytes, writtenOf}
 use Rattle.file_writer.specs.Accepted.{Accepted, accepted}
 use Rattle.round_trip.specs.RoundTrips.{cleared, read-arrays, read-sound, read-places, write-after-read, read-after-write, cleared-parts, cleared-arrays, cleared-places}
-use Rattle.capi_schedule.specs.FlatSchedule.{numberedAt, tasksFrom, countFrom, heldFrom, placeFrom, routeFrom, routesFrom, scheduleFrom, numberedFields, flatTasks, flatRoutes, routeCounts}
-use Rattle.capi_schedule.specs.GivenBack.{from-arrays, schedule-given-back, front-tasks, same-tasks, count-fits, count-is, held-is, flat-at, count-at, SameChains, same-counts, same-places}
+use Rattle.capi_schedule.specs.FlatSchedule.{tasksFrom, countFrom, heldFrom, placeFrom, routeFrom, routesFrom, scheduleFrom, numberedFields, flatTasks, flatRoutes, routeCounts}
+use Rattle.capi_schedule.specs.GivenBack.{from-arrays, schedule-given-back, front-tasks, same-tasks, count-fits, count-is, held-back, held-is, flat-long, flat-at, count-at, SameChains, same-counts, same-places}
 use Rattle.capi_file.specs.Calls.{writtenCode, writtenLength, GivesSchedule, GivesFile}
 
 -- ---- what C gives back
@@ -96,20 +96,30 @@ module _ (b : List ℕ) (is : Bytes b) (code : ℕ) (ts ch pl : List ℕ) (n m :
   t-chains : heldFrom (length pl) m ≡ m
   t-chains = ap (λ (x : Schedule). x .chains) read ∙ sym (ap (λ (l : List ℕ). getD l 1 0) (g .gives-counts))
 
-  same : SameSchedule (scheduleFrom us n vs ws m) (scheduleFrom ts n ch pl m)
-  same = record {
+  -- the lists that were got hold their own chains
+  got-held : (c : ℕ) → c < m → heldFrom (length ch - 12 * c) (getD pl c 0) ≡ getD pl c 0
+  got-held c h =
+      let e : m ≡ readFile b .schedule .chains = ap (λ (l : List ℕ). getD l 1 0) (g .gives-counts) in
+      let k : c < 4 = omega (arith, sound .few-chains) in
+      let p : getD pl c 0 ≡ getD (readFile b .schedule .routes) c noRoute .count = ap (λ (l : List ℕ). getD l c 0) (g .gives-places) ∙ count-at (readFile b .schedule .routes) c k in
+      let l : length ch ≡ 48 = ap length (g .gives-chains) ∙ flat-long (readFile b .schedule .routes) in
+      held-back (length ch - 12 * c) (getD pl c 0) (omega (arith, read-places b is number c k))
+
+  -- both are the same schedule
+  pub same-given : SameSchedule (scheduleFrom us n vs ws m) (scheduleFrom ts n ch pl m)
+  same-given = record {
     count = count ∙ sym t-count;
     chains = chained ∙ sym t-chains;
     tasks = ap (λ (x : ℕ). take x (tasksFrom us)) count ∙ same-tasks ts us n (omega (arith, n-is, sound .few)) (count-fits (length ts) n t-count) (count-fits (length us) n count) tasks
         ∙ ap (λ (x : ℕ). take x (tasksFrom ts)) (sym t-count);
-    places = ap (λ (x : ℕ). map countOf (take x (routesFrom vs ws))) chained ∙ same-counts m ch pl vs ws chains ∙ ap (λ (x : ℕ). map countOf (take x (routesFrom ch pl))) (sym t-chains);
-    numbers = ap (λ (x : ℕ). map placesOf (take x (routesFrom vs ws))) chained ∙ same-places m ch pl vs ws chains ∙ ap (λ (x : ℕ). map placesOf (take x (routesFrom ch pl))) (sym t-chains);
+    places = ap (λ (x : ℕ). map countOf (take x (routesFrom vs ws))) chained ∙ same-counts m ch pl vs ws got-held chains ∙ ap (λ (x : ℕ). map countOf (take x (routesFrom ch pl))) (sym t-chains);
+    numbers = ap (λ (x : ℕ). map placesOf (take x (routesFrom vs ws))) chained ∙ same-places m ch pl vs ws got-held chains ∙ ap (λ (x : ℕ). map placesOf (take x (routesFrom ch pl))) (sym t-chains);
   }
 
   pub rewritten-for-c : (old : List ℕ) → length b ≤ length old → (code′ : ℕ) (new : List ℕ) (long : ℕ) → GivesFile (scheduleFrom us n vs ws m) old code′ new long
       → (code′ ≡ 0) × (long ≡ length b) × (new ≡ b ++ drop (length b) old)
   rewritten-for-c old h code′ new long w =
-      let k = gives-same (scheduleFrom us n vs ws m) (scheduleFrom ts n ch pl m) same old code′ new long w in
+      let k = gives-same (scheduleFrom us n vs ws m) (scheduleFrom ts n ch pl m) same-given old code′ new long w in
       let v : GivesFile (readFile b .schedule) old code′ new long = rw read at k in
       let r = write-after-read b is number old h in
       (v .answers ∙ ap writtenCode (r .0), v .gives-length ∙ ap writtenLength (r .0), v .leaves ∙ r .1)

@@ -1,9 +1,6 @@
 // Schedule files for C and for hosts: bytes, plain numbers and lists of numbers. include/meshorchard.h declares the calls and says how to use them.
 // A schedule is given and got as the lists of `capi_schedule`.
-use chain::Chain;
 use file_writer::Written;
-use schedule::Schedule;
-ghost use mathlib.Core.Path.{_≡_};
 ghost use Rattle.file_reader.specs.Reading.{readFile};
 ghost use Rattle.capi_schedule.specs.FlatSchedule.{scheduleFrom};
 ghost use Rattle.capi_file.specs.Calls.{GivesSchedule, GivesFile, GivesChain};

@@ -1,5 +1,5 @@
 -- The lists that C gets of a schedule give the schedule back (`schedule-given-back`), and lists that hold the same numbers at the counted places
--- give the same tasks and chains (`same-lists`).
+-- give the same tasks and chains (`same-tasks`, `same-counts`, `same-places`).
 use Prim.Native.Nat.{ℕ, zero, suc, _+_, _-_, _*_, _/_, _%_, _≤_, _<_}
 use native.Mathlib.Omega.{arith}
 use mathlib.Core.Path.{_≡_, refl, sym, ap, _∙_}
@@ -10,7 +10,7 @@ use lib.ListN.{length, getD, take}
 use lib.Seq.{take-add, drop-cons, ext-getD, getD-take, length-take-le}
 use borrow.Author.Tests.{le-leb, leb-true}
 use Rattle.chain.specs.Flat.{flatOf, length-flat, flat-more}
-use Rattle.chain.specs.Entries.{entries, entries-length, entries-at, entries-are, entries-front, map-front}
+use Rattle.chain.specs.Entries.{entries-length, entries-at, entries-are, entries-front, map-front}
 use Rattle.schedule.specs.declared.NumberedTask.{NumberedTask}
 use Rattle.schedule.specs.declared.Route.{Route}
 use Rattle.schedule.specs.declared.Schedule.{Schedule}
@@ -120,6 +120,9 @@ held-is long n = go (leb n long)
     go true h = refl
     go false h = absurd (omega arith)
 
+pub flat-long : (rs : List Route) → length (flatRoutes rs) ≡ 48
+flat-long rs = entries-length (placeIn rs) 0 48
+
 -- place i of chain c
 pub flat-at : (rs : List Route) (c i : ℕ) → c < 4 → i < 12 → getD (flatRoutes rs) (12 * c + i) 0 ≡ getD (getD rs c noRoute .places) i 0
 flat-at rs c i h g =
@@ -134,7 +137,7 @@ module _ (rs : List Route) (four : length rs ≡ 4) (twelve : (c : ℕ) → c < 
   route-back : (c : ℕ) → c < 4 → routeFrom (flatRoutes rs) (routeCounts rs) c ≡ getD rs c noRoute
   route-back c h =
       let r = getD rs c noRoute in
-      let n : length (flatRoutes rs) ≡ 48 = entries-length (placeIn rs) 0 48 in
+      let n : length (flatRoutes rs) ≡ 48 = flat-long rs in
       let p = entries-are (placeFrom (flatRoutes rs) (12 * c)) 0 (r .places) 12 (twelve c h) (λ i g. flat-at rs c i h g) in
       let k = ap (heldFrom (length (flatRoutes rs) - 12 * c)) (count-at rs c h) ∙ held-back (length (flatRoutes rs) - 12 * c) (r .count) (omega (arith, few c h)) in
       rw (p, k)
@@ -142,7 +145,7 @@ module _ (rs : List Route) (four : length rs ≡ 4) (twelve : (c : ℕ) → c < 
   routes-back : routesFrom (flatRoutes rs) (routeCounts rs) ≡ rs
   routes-back = entries-are (routeFrom (flatRoutes rs) (routeCounts rs)) noRoute rs 4 four route-back
 
--- C gets the schedule back, whatever it holds
+-- C gets the schedule back, where its counts are inside their limits
 pub schedule-given-back : (s : Schedule) → Arrays s → s .count ≤ 32 → s .chains ≤ 4 → ((c : ℕ) → c < 4 → getD (s .routes) c noRoute .count ≤ 12)
     → scheduleFrom (flatTasks (s .tasks)) (s .count) (flatRoutes (s .routes)) (routeCounts (s .routes)) (s .chains) ≡ s
 schedule-given-back s a few few-chains few-places =
@@ -153,19 +156,16 @@ schedule-given-back s a few few-chains few-places =
     let m = ap (λ (x : ℕ). heldFrom x (s .chains)) (entries-length (countIn (s .routes)) 0 4) ∙ held-back 4 (s .chains) few-chains in
     rw (t, c, k, m)
 
--- Lists of chains and of their numbers of places that hold the same m chains: as many places each, which both hold, and the same numbers at them.
+-- Other lists of chains and of their numbers of places that hold the same m chains: as many places each, which they hold, and the same numbers at them.
 pub record SameChains (m : ℕ) (chains places chains′ places′ : List ℕ) : Type 0 where
   pub counts : (c : ℕ) → c < m → getD places′ c 0 ≡ getD places c 0
-  pub held : (c : ℕ) → c < m → heldFrom (length chains - 12 * c) (getD places c 0) ≡ getD places c 0
-  pub held′ : (c : ℕ) → c < m → heldFrom (length chains′ - 12 * c) (getD places c 0) ≡ getD places c 0
+  pub held : (c : ℕ) → c < m → heldFrom (length chains′ - 12 * c) (getD places c 0) ≡ getD places c 0
   pub numbers : (c i : ℕ) → c < m → i < getD places c 0 → getD chains′ (12 * c + i) 0 ≡ getD chains (12 * c + i) 0
 
-module _ (m : ℕ) (chains places chains′ places′ : List ℕ) (same : SameChains m chains places chains′ places′) where
-  counted : (c : ℕ) → c < m → routeFrom chains places c .count ≡ getD places c 0
-  counted c h = same .held c h
-
+-- `counted` says that the first lists hold their own chains
+module _ (m : ℕ) (chains places chains′ places′ : List ℕ) (counted : (c : ℕ) → c < m → heldFrom (length chains - 12 * c) (getD places c 0) ≡ getD places c 0) (same : SameChains m chains places chains′ places′) where
   counted′ : (c : ℕ) → c < m → routeFrom chains′ places′ c .count ≡ getD places c 0
-  counted′ c h = ap (heldFrom (length chains′ - 12 * c)) (same .counts c h) ∙ same .held′ c h
+  counted′ c h = ap (heldFrom (length chains′ - 12 * c)) (same .counts c h) ∙ same .held c h
 
   same-count : (c : ℕ) → c < m → routeFrom chains′ places′ c .count ≡ routeFrom chains places c .count
   same-count c h = counted′ c h ∙ sym (counted c h)

@@ -7,7 +7,6 @@ use schedule::Schedule;
 use task::Task;
 ghost use mathlib.Core.Path.{_≡_};
 ghost use Prim.Native.Nat.{_+_, _*_, _≤_, _<_};
-ghost use lib.ListN.{length};
 ghost use Rattle.capi_schedule.specs.FlatSchedule.{numberedAt, tasksFrom, countFrom, heldFrom, placesFrom, routeFrom, routesFrom, scheduleFrom, flatTasks, flatRoutes, routeCounts};
 
 // ---- a schedule from lists

@@ -6,7 +6,6 @@ use schedule::Route;
 use schedule::Schedule;
 use task::Task;
 ghost use mathlib.Core.Path.{_≡_};
-ghost use mathlib.Core.List.{List};
 ghost use Prim.Native.Nat.{_+_, _*_, _≤_, _<_};
 ghost use lib.ListN.{length, take};
 ghost use Rattle.schedule.specs.Schedules.{routeOf};

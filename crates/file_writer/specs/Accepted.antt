@@ -10,7 +10,6 @@ use Rattle.refusal.specs.Refusals.{refusal}
 use Rattle.schedule.specs.declared.Schedule.{Schedule}
 use Rattle.schedule_checks.specs.Checks.{faultOf}
 use Rattle.schedule_checks.specs.SoundSchedule.{SoundSchedule, sound}
-use Rattle.file_writer.specs.declared.Written.{Written}
 use Rattle.file_writer.specs.declared.Written.the-variants.{Bytes, Refused}
 use Rattle.file_writer.specs.FileBytes.{fileBytes}
 use Rattle.file_writer.specs.Writing.{lengthVerdict, writtenOf}

@@ -86,12 +86,16 @@ pub fn most_misses_of(s: Schedule, n: usize, b: u64, k: u64) -> Windows
 pub fn pair_of(s: Schedule, first: usize, second: usize, t: Tick) -> Bookings
     ensures { λ r. ⌜ r ≡ bookingsFrom s first second (t .0) ⌝ }
 {
-    let c = schedule_checks::chain_number(s, first);
-    let r = c.refusal;
+    let r = schedule_checks::fault_of(s);
     if r.number != 0 {
         return Bookings::Refused(r);
     }
-    let d = schedule_checks::chain_number(s, second);
+    let c = schedule_checks::chain_in(s, first);
+    let p = c.refusal;
+    if p.number != 0 {
+        return Bookings::Refused(p);
+    }
+    let d = schedule_checks::chain_in(s, second);
     let q = d.refusal;
     if q.number != 0 {
         return Bookings::Refused(q);

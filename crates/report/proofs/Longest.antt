@@ -13,7 +13,8 @@ use Rattle.chain.specs.Chains.{at, zeroTask}
 use Rattle.chain.proofs.Front.{front-cons, front-end}
 use Rattle.schedule.specs.Schedules.{positionOf}
 use Rattle.report.specs.Report.{longestPeriod, longestPlace}
-use Rattle.report.specs.LongestPlace.{periods, position-here, position-later, first-longest, later-longer}
+use Rattle.schedule.specs.Numbers.{position-here, position-past}
+use Rattle.report.specs.LongestPlace.{periods, first-longest, later-longer}
 
 -- what the loop ends with, b being the longest period so far, p its place, and i the number of tasks before l
 unfoldable pub pick : ℕ → ℕ → ℕ → List Task → ℕ
@@ -28,13 +29,13 @@ module _ (t : Task) (l : List Task) where
   longest-longer : (b p i : ℕ) → b < t .period → found (t .period) (i + 1) (i + 1) l ≡ found b p i (t ∷ l)
   longest-longer b p i h = elim (decLe (longestPeriod l) (t .period)) [
     | yes k ↦
-        rw (first-longest t l k, le-leb (longestPeriod l) (t .period) k, lt-leb (t .period) b h, position-here (t .period) (periods l)) (omega arith)
+        rw (first-longest t l k, le-leb (longestPeriod l) (t .period) k, lt-leb (t .period) b h, position-here (t .period) (t .period) (periods l) refl) (omega arith)
     | no k ↦
         rw (
           later-longer t l (omega arith),
           lt-leb (longestPeriod l) (t .period) (omega arith),
           lt-leb (longestPeriod l) b (omega arith),
-          position-later (t .period) (longestPeriod l) (periods l) (λ e. omega arith),
+          position-past (longestPeriod l) (t .period) (periods l) (λ e. omega arith),
         )
         (omega arith)
   ]
@@ -46,7 +47,7 @@ module _ (t : Task) (l : List Task) where
         rw (
           later-longer t l (omega arith),
           lt-leb (longestPeriod l) b (omega arith),
-          position-later (t .period) (longestPeriod l) (periods l) (λ e. omega arith),
+          position-past (longestPeriod l) (t .period) (periods l) (λ e. omega arith),
         )
         (omega arith)
   ]

@@ -5,22 +5,14 @@ use native.Mathlib.Decide.{decLe}
 use mathlib.Core.Path.{_≡_, refl}
 use mathlib.Core.List.{List, [], _∷_, map}
 use lib.ListN.{length}
-use borrow.Author.Tests.{eq-eqb, ne-eqb}
 use Rattle.task.specs.declared.Task.{Task}
 use Rattle.chain.specs.Chains.{at}
 use Rattle.schedule.specs.Schedules.{positionOf}
+use Rattle.schedule.specs.Numbers.{position-here, position-past}
 use Rattle.report.specs.Report.{longestPeriod, longestPlace}
 
 abbrev pub periods : List Task → List ℕ
 periods = map (λ (t : Task). t .period)
-
-pub position-here : (n : ℕ) (l : List ℕ) → positionOf n (n ∷ l) ≡ 0
-unfolding positionOf
-position-here n l = rw (eq-eqb n n refl)
-
-pub position-later : (m n : ℕ) (l : List ℕ) → (m ≡ n → ⊥) → positionOf n (m ∷ l) ≡ suc (positionOf n l)
-unfolding positionOf
-position-later m n l h = rw (ne-eqb m n h)
 
 module _ (t : Task) (l : List Task) where
   pub first-longest : longestPeriod l ≤ t .period → longestPeriod (t ∷ l) ≡ t .period
@@ -49,9 +41,9 @@ First l n q = (q < length l) × (at l q .period ≡ n) × ((i : ℕ) → i < q �
 first : (l : List Task) → 1 ≤ length l → First l (longestPeriod l) (positionOf (longestPeriod l) (periods l))
 first [] h = absurd (omega arith)
 first (t ∷ l) h = elim (decLe (longestPeriod l) (t .period)) [
-  | yes k ↦ rw (first-longest t l k, position-here (t .period) (periods l)) (omega arith, refl, λ i g. absurd (omega arith))
+  | yes k ↦ rw (first-longest t l k, position-here (t .period) (t .period) (periods l) refl) (omega arith, refl, λ i g. absurd (omega arith))
   | no k ↦
-      rw (later-longer t l (omega arith), position-later (t .period) (longestPeriod l) (periods l) (λ e. omega arith))
+      rw (later-longer t l (omega arith), position-past (longestPeriod l) (t .period) (periods l) (λ e. omega arith))
       (later (omega arith) (first l (some-task l (omega arith))))
 ]
   where

@@ -16,7 +16,7 @@ use Rattle.chain.specs.Checks.{hyperVerdict}
 use Rattle.little_endian.specs.LittleEndian.{Bytes}
 use Rattle.schedule.specs.declared.Schedule.{Schedule}
 use Rattle.schedule.specs.Schedules.{chainAt}
-use Rattle.schedule_checks.specs.SoundChain.{sound-placed, sound-length, sound-chain, chain-at-twelve}
+use Rattle.schedule_checks.specs.SoundChain.{sound-twelve, sound-placed, sound-length, sound-chain}
 use Rattle.file_reader.specs.Reading.{readFile}
 use Rattle.round_trip.specs.RoundTrips.{read-arrays, read-sound}
 use Rattle.table.specs.Anchors.{Anchor}
@@ -55,6 +55,7 @@ module _ (b : List ℕ) (is : Bytes b) (fine : readFile b .refusal .number ≡ 0
   abbrev s : Schedule
   s = readFile b .schedule
 
+  -- the text of chain 1, of chain 2, and so on (`partsText`); what each of them is, is `read-part`
   pub read-report : reportOf b ≡ scheduleText 1024 s
   unfolding fileText
   read-report = rw (eq-eqb (readFile b .refusal .number) 0 fine)
@@ -69,5 +70,5 @@ module _ (b : List ℕ) (is : Bytes b) (fine : readFile b .refusal .number ≡ 0
       let m = sound-length s a k n some few in
       let l = longest-place (tasksOf c) (omega (arith, placed .0)) in
       let e : judged c (longestPlace (tasksOf c)) 1024 1024 ≡ hyperVerdict (tasksOf c)
-      = inside c (chain-at-twelve s a n some (omega (arith, k .few-chains))) 1024 (longestPlace (tasksOf c)) (l .some) (omega (arith, l .inside)) ∙ sound-chain s a k n some few in
+      = inside c (sound-twelve s a k n some few) 1024 (longestPlace (tasksOf c)) (l .some) (omega (arith, l .inside)) ∙ sound-chain s a k n some few in
       rw e (hyper-text 1024 c (longestPlace (tasksOf c)))

@@ -1,5 +1,5 @@
 -- Document 01, program `chainreport`, with order 1 of document 02: the whole text for the bytes of a schedule file.
-use Prim.Native.Nat.{ℕ, suc, _+_, _≤_, max}
+use Prim.Native.Nat.{ℕ, zero, suc, _+_, _≤_, max}
 use mathlib.Core.Path.{_≡_}
 use mathlib.Core.Bool.{cond}
 use mathlib.Core.List.{List, [], _∷_, _++_, map}
@@ -9,10 +9,8 @@ use Rattle.refusal.specs.Refusals.{refusal}
 use Rattle.task.specs.declared.Task.{Task}
 use Rattle.chain.specs.declared.Chain.{Chain}
 use Rattle.chain.specs.Chains.{tasksOf}
-use Rattle.schedule.specs.declared.NumberedTask.{NumberedTask}
-use Rattle.schedule.specs.declared.Route.{Route}
 use Rattle.schedule.specs.declared.Schedule.{Schedule}
-use Rattle.schedule.specs.Schedules.{positionOf, tasksIn, routesIn, chainOf}
+use Rattle.schedule.specs.Schedules.{positionOf, chainAt}
 use Rattle.file_reader.specs.declared.FileRead.{FileRead}
 use Rattle.file_reader.specs.Reading.{readFile}
 use Rattle.table.specs.Anchors.{Anchor}
@@ -45,12 +43,14 @@ chainText slots c = madeText (madeOf c (longestPlace (tasksOf c)) slots slots) (
 unfoldable pub partText : ℕ → ℕ → Chain → List ℕ
 partText slots n c = line (ascii "chain") (n ∷ []) ++ chainText slots c
 
-unfoldable pub partsText : ℕ → List NumberedTask → ℕ → List Route → List ℕ
-partsText slots ts n [] = []
-partsText slots ts n (r ∷ rs) = partText slots n (chainOf ts r) ++ partsText slots ts (suc n) rs
+-- the parts of so many chains from chain n on,
+unfoldable pub partsText : ℕ → Schedule → ℕ → ℕ → List ℕ
+partsText slots s n zero = []
+partsText slots s n (suc more) = partText slots n (chainAt s n) ++ partsText slots s (suc n) more
 
+-- and of all.
 unfoldable pub scheduleText : ℕ → Schedule → List ℕ
-scheduleText slots s = partsText slots (tasksIn s) 1 (routesIn s)
+scheduleText slots s = partsText slots s 1 (s .chains)
 
 -- A file that is read has the text of its chains, each made with 1,024 slots; else the one line of the refusal.
 unfoldable pub fileText : FileRead → List ℕ

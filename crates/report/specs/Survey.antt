@@ -9,7 +9,7 @@ use Rattle.little_endian.specs.LittleEndian.{valueOf, numberAt}
 use Rattle.chain.specs.Chains.{forwardBy, onLatest, backwardBy}
 use Rattle.chain.specs.Checks.{firstFault, hyperVerdict, verdictFor}
 use Rattle.chain.specs.Hyperperiod.{hyperFrom}
-use Rattle.schedule.specs.Schedules.{taskRule, positionOf, known, taskNumbered, padded}
+use Rattle.schedule.specs.Schedules.{taskRule, positionOf, known, taskNumbered, padded, routeNumbered}
 use Rattle.file_reader.specs.Reading.{numbersFrom, allKnown, taskRecord, chainRecord, endRecord, kindRecord, recordOf, afterRecord, readFrom}
 use Rattle.timing.specs.WarmUp.{leastFrom, warmLast, warmAt, warmTick}
 use Rattle.partition.specs.Lists.{rangeFrom, keep, fresh, dropRepeats}
@@ -33,5 +33,5 @@ fileA =
     ∷ 4 ∷ 0 ∷ 3 ∷ 0 ∷ []
 
 pub report-a : reportOf fileA ≡ ascii "chain 1\nwarm 0\nhyper 12\nanchors 2\na 0 18\na 8 16\nmax 18\nlow 10\nmean 174 12\nwalked 2\n"
-unfolding withinLimits earliestFrom latestBy forwardLink backwardLink euclid gcdOf lcmOf valueOf numberAt forwardBy onLatest backwardBy firstFault hyperVerdict verdictFor hyperFrom taskRule positionOf known taskNumbered padded numbersFrom allKnown taskRecord chainRecord endRecord kindRecord recordOf afterRecord readFrom leastFrom warmLast warmAt warmTick rangeFrom keep fresh dropRepeats startOf endOf keeps anchorsFrom anchors lastAt delayAt greatest lowTo low total delaySum judged madeAfter writtenAfter lastDigits decimal fields line longestPeriod longestPlace anchorLines headText figuresText tableText madeText chainText partText partsText scheduleText fileText
+unfolding withinLimits earliestFrom latestBy forwardLink backwardLink euclid gcdOf lcmOf valueOf numberAt forwardBy onLatest backwardBy firstFault hyperVerdict verdictFor hyperFrom taskRule positionOf known taskNumbered padded routeNumbered numbersFrom allKnown taskRecord chainRecord endRecord kindRecord recordOf afterRecord readFrom leastFrom warmLast warmAt warmTick rangeFrom keep fresh dropRepeats startOf endOf keeps anchorsFrom anchors lastAt delayAt greatest lowTo low total delaySum judged madeAfter writtenAfter lastDigits decimal fields line longestPeriod longestPlace anchorLines headText figuresText tableText madeText chainText partText partsText scheduleText fileText
 report-a = refl

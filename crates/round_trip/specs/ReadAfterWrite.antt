@@ -20,7 +20,7 @@ use Rattle.schedule_checks.specs.Checks.{firstFault}
 use Rattle.schedule_checks.specs.SoundSchedule.{fault-cons}
 use Rattle.file_writer.specs.Lengths.{length-task, length-chain, length-end}
 use Rattle.round_trip.specs.RecordBytes.{Small, task-front, head-length, head-kind, task-read, chain-front, chain-read}
-use Rattle.round_trip.specs.Right.{Placed, no-chain, one-more, Right, rule-fits, unknown-all, chain-small}
+use Rattle.round_trip.specs.Right.{Placed, one-more, Right, rule-fits, unknown-all, chain-small}
 
 -- ---- one record
 

@@ -1,27 +1,23 @@
--- The tasks at the places of a route: a number that no task has gives a task of zeros.
-use Prim.Native.Nat.{ℕ, _≤_}
+-- The tasks at the places of a route, and the route with a number.
+use Prim.Native.Nat.{ℕ, zero, suc, _-_, _≤_}
 use native.Mathlib.Omega.{arith}
-use mathlib.Core.Path.{_≡_, refl, sym, ap, _∙_}
-use mathlib.Core.Bool.{Bool, true, false, cond}
-use mathlib.Core.List.{List, [], _∷_, map}
-use lib.Dec.{eqb}
-use lib.ListN.{length, take, length-map, length-take}
-use lib.Seq.{length-take-le}
+use mathlib.Core.Path.{_≡_, sym, ap, _∙_}
+use mathlib.Core.List.{List, map}
+use lib.ListN.{length, getD, take, length-map, length-take}
+use lib.Seq.{getD-take, length-take-le}
 use Rattle.task.specs.declared.Task.{Task}
 use Rattle.chain.specs.Chains.{tasksOf, zeroTask}
 use Rattle.schedule.specs.declared.NumberedTask.{NumberedTask}
 use Rattle.schedule.specs.declared.Route.{Route}
-use Rattle.schedule.specs.Schedules.{numberOf, placesOf, known, taskNumbered, padded, chainOf}
+use Rattle.schedule.specs.declared.Schedule.{Schedule}
+use Rattle.schedule.specs.Schedules.{placesOf, routesIn, taskNumbered, noRoute, routeNumbered, chainOf, padded}
 use Rattle.schedule.specs.Padding.{take-padded, length-padded}
 
-pub unknown-zero : (ts : List NumberedTask) (n : ℕ) → known (map numberOf ts) n ≡ false → taskNumbered ts n ≡ zeroTask
-unfolding known taskNumbered
-unknown-zero [] n h = refl
-unknown-zero (t ∷ ts) n h = go (eqb (t .number) n) h (unknown-zero ts n)
-  where
-    go : (b : Bool) → cond b true (known (map numberOf ts) n) ≡ false → (known (map numberOf ts) n ≡ false → taskNumbered ts n ≡ zeroTask) → cond b (t .task) (taskNumbered ts n) ≡ zeroTask
-    go true k f = absurd (let z : _≡_ {A = ℕ} 0 1 = cc in omega arith)
-    go false k f = f k
+-- chain n of a schedule stands in entry n - 1 of its array
+pub route-there : (s : Schedule) (n : ℕ) → 1 ≤ n → n ≤ s .chains → routeNumbered (routesIn s) n ≡ getD (s .routes) (n - 1) noRoute
+unfolding routeNumbered
+route-there s zero low high = absurd (omega arith)
+route-there s (suc i) low high = let e : suc i - 1 ≡ i = omega arith in rw e (getD-take (s .chains) (s .routes) i noRoute (omega arith))
 
 -- `long` holds of every value of the type.
 module _ (ts : List NumberedTask) (r : Route) (long : length (r .places) ≡ 12) where

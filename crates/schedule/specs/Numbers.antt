@@ -10,15 +10,6 @@ use borrow.Author.Tests.{eq-eqb, ne-eqb}
 use Rattle.schedule.specs.declared.NumberedTask.{NumberedTask}
 use Rattle.schedule.specs.Schedules.{numberOf, positionOf, known, taskNumbered, zeroNumbered}
 
-pub position-low : (n : ℕ) (l : List ℕ) → positionOf n l ≤ length l
-unfolding positionOf
-position-low n [] = omega arith
-position-low n (m ∷ l) = go (eqb m n) (position-low n l)
-  where
-    go : (b : Bool) → positionOf n l ≤ length l → cond b 0 (suc (positionOf n l)) ≤ suc (length l)
-    go true h = omega arith
-    go false h = omega arith
-
 pub known-position : (l : List ℕ) (n : ℕ) → positionOf n l < length l → known l n ≡ true
 unfolding positionOf known
 known-position [] n h = absurd (omega arith)

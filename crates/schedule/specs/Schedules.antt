@@ -1,5 +1,5 @@
 -- Document 01, "Tasks and jobs" and "Schedule file", with order 1 of document 02: the tasks of a schedule with their numbers, its chains, and the tasks at their places.
-use Prim.Native.Nat.{ℕ, zero, suc, _-_}
+use Prim.Native.Nat.{ℕ, zero, suc}
 use mathlib.Core.Bool.{Bool, true, false, cond, _&&_}
 use mathlib.Core.List.{List, [], _∷_, map}
 use lib.Dec.{ltb, leb, eqb}
@@ -66,12 +66,17 @@ padded (suc n) d (x ∷ l) = x ∷ padded n d l
 abbrev pub chainOf : List NumberedTask → Route → Chain
 chainOf ts r = record { tasks = padded 12 zeroTask (map (taskNumbered ts) (placesOf r)); places = r .count }
 
--- Chain n of a schedule, numbered by its place from 1; no places where there is none.
+-- No chain: no places.
 abbrev pub noRoute : Route
 noRoute = record { places = []; count = 0 }
 
+-- The chain with the number n, counted from 1; none where there is none.
+unfoldable pub routeNumbered : List Route → ℕ → Route
+routeNumbered rs zero = noRoute
+routeNumbered rs (suc i) = getD rs i noRoute
+
 abbrev pub chainAt : Schedule → ℕ → Chain
-chainAt s n = chainOf (tasksIn s) (getD (s .routes) (n - 1) noRoute)
+chainAt s n = chainOf (tasksIn s) (routeNumbered (routesIn s) n)
 
 abbrev pub zeroNumbered : NumberedTask
 zeroNumbered = record { number = 0; task = zeroTask }

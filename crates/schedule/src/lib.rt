@@ -1,5 +1,5 @@
 // A schedule by value: its tasks with their numbers, its chains as the task numbers at their places, and their counts.
-// `chain_of` takes any schedule and any route. `follows` takes any task, `numbers_of` and `at_most` any values; what `find` requires is proved by the crates that call them.
+// `chain_of` takes any schedule and any route. `follows` takes any task, `numbers_of` and `at_most` any values; what `find` requires is proved by the crates that call it.
 use chain::Chain;
 use task::Task;
 ghost use mathlib.Core.Path.{_≡_};
@@ -56,6 +56,7 @@ pub fn numbers_of(tasks: [NumberedTask; 32]) -> [u64; 32]
     numbers
 }
 
+// The lesser of a number and a limit.
 pub fn at_most(n: usize, limit: usize) -> usize
     ensures { λ r. ⌜ r ≡ least n limit ⌝ }
 {
@@ -77,7 +78,7 @@ pub fn find(numbers: &[u64], count: usize, n: u64) -> usize
     count
 }
 
-// The chain of a route in a schedule: the tasks at its places. A number that no task has gives a task of zeros, which every analysis refuses.
+// The chain of a route in a schedule: the tasks at its places. A number that no task has gives a task of zeros, whose period is outside its limits.
 pub fn chain_of(s: Schedule, r: Route) -> Chain
     ensures { λ c. ⌜ c ≡ chainOf (tasksIn s) r ⌝ }
 {

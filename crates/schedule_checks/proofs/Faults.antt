@@ -2,7 +2,7 @@
 use Prim.Native.Nat.{ℕ, zero, suc, _+_, _≤_, _<_}
 use native.Mathlib.Omega.{arith}
 use mathlib.Core.Path.{_≡_, refl, sym, ap, _∙_}
-use mathlib.Core.Bool.{Bool, true, false, cond}
+use mathlib.Core.Bool.{true, false}
 use mathlib.Core.List.{List, [], _∷_, map}
 use lib.ListN.{length, take}
 use lib.Seq.{length-take-le}
@@ -11,7 +11,7 @@ use Rattle.refusal.specs.Refusals.{refusal, none}
 use Rattle.schedule.specs.declared.NumberedTask.{NumberedTask}
 use Rattle.schedule.specs.declared.Route.{Route}
 use Rattle.schedule.specs.declared.Schedule.{Schedule}
-use Rattle.schedule.specs.Schedules.{numberOf, tasksIn, chainsIn, placesOf, taskRule, positionOf}
+use Rattle.schedule.specs.Schedules.{numberOf, tasksIn, chainsIn, taskRule, positionOf}
 use Rattle.schedule.specs.Numbers.{known-position, unknown-position}
 use Rattle.schedule_checks.specs.Checks.{countRight, placesRight, countsRight, firstFault, firstUnknown, orElse, unknownPlace, faultAt, faultOf}
 

@@ -46,6 +46,13 @@ module _ (s : Schedule) (n : ℕ) where
   unfolding choiceOf
   choice-there k low high = rw (no-refusal s k, right-count n (s .chains) low high)
 
+  -- Where the schedule is refused, nothing is chosen.
+  pub fault-answers : {A : Type 0} (refused : Refusal → A) (answer : Chain → A) (r : Refusal) → r ≡ faultOf s → (r .number ≡ 0 → ⊥) → refused r ≡ afterChoice s n refused answer
+  unfolding afterChoice choiceOf
+  fault-answers refused answer r is h =
+      let e : faultOf s .number ≡ 0 → ⊥ = λ z. h (ap (λ (x : Refusal). x .number) is ∙ z) in
+      ap refused is ∙ rw (ne-eqb (faultOf s .number) 0 e, ne-eqb (faultOf s .number) 0 e)
+
   -- What an analysis answers, by what was chosen.
   module _ {A : Type 0} (refused : Refusal → A) (answer : Chain → A) (c : Chosen) (is : c ≡ chosenOf s n) where
     number : c .refusal .number ≡ choiceOf s n .number

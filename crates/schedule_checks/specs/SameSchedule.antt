@@ -1,15 +1,19 @@
--- What the judge looks at of a schedule: its counts, its tasks, its chains. Entries past a count are not looked at.
+-- What is looked at of a schedule: its counts, its tasks, its chains. Entries past a count are not looked at, by the judge (`fault-same`), by the choice of a chain (`chosen-same`)
+-- and by the analyses (`after-same`).
 use mathlib.Core.Path.{_≡_, refl, sym, ap, _∙_}
 use mathlib.Core.Bool.{Bool, true, false, cond}
 use mathlib.Core.List.{List, [], _∷_, map}
-use Prim.Native.Nat.{ℕ}
+use Prim.Native.Nat.{ℕ, zero, suc}
+use lib.ListN.{getD}
 use Rattle.refusal.specs.declared.Refusal.{Refusal}
 use Rattle.refusal.specs.Refusals.{refusal, none}
+use Rattle.chain.specs.declared.Chain.{Chain}
+use Rattle.chain.specs.Chains.{zeroTask}
 use Rattle.schedule.specs.declared.NumberedTask.{NumberedTask}
 use Rattle.schedule.specs.declared.Route.{Route}
 use Rattle.schedule.specs.declared.Schedule.{Schedule}
-use Rattle.schedule.specs.Schedules.{numberOf, tasksIn, countOf, routesIn, chainsIn}
-use Rattle.schedule_checks.specs.Checks.{countRight, placesRight, countsRight, firstFault, unknownPlace, faultAt, faultOf}
+use Rattle.schedule.specs.Schedules.{numberOf, tasksIn, placesOf, countOf, routesIn, chainsIn, taskNumbered, padded, routeNumbered, chainAt}
+use Rattle.schedule_checks.specs.Checks.{countRight, placesRight, countsRight, firstFault, unknownPlace, faultAt, faultOf, choiceOf, noneChosen, chosenOf, afterChoice}
 
 pub record SameSchedule (s t : Schedule) : Type 0 where
   pub count : s .count ≡ t .count
@@ -17,6 +21,11 @@ pub record SameSchedule (s t : Schedule) : Type 0 where
   pub tasks : tasksIn s ≡ tasksIn t
   pub places : map countOf (routesIn s) ≡ map countOf (routesIn t)
   pub numbers : chainsIn s ≡ chainsIn t
+
+-- entry n of a list, counted from 1, or d
+numbered : {A : Type 0} → List A → ℕ → A → A
+numbered l zero d = d
+numbered l (suc i) d = getD l i d
 
 -- the judge by what it looks at
 allRight : List ℕ → Bool
@@ -45,3 +54,47 @@ fault-same s t e =
     ∙ ap (λ (x : List NumberedTask). faultBy (t .count) (t .chains) x (map countOf (routesIn s)) (chainsIn s)) (e .tasks)
     ∙ ap (λ (x : List ℕ). faultBy (t .count) (t .chains) (tasksIn t) x (chainsIn s)) (e .places)
     ∙ ap (λ (x : List (List ℕ)). faultBy (t .count) (t .chains) (tasksIn t) (map countOf (routesIn t)) x) (e .numbers) ∙ sym (fault-by t)
+
+-- So does the choice of a chain: the chain is that of the counted tasks, its count and its numbers.
+count-numbered : (rs : List Route) (n : ℕ) → routeNumbered rs n .count ≡ numbered (map countOf rs) n 0
+unfolding routeNumbered numbered
+count-numbered rs zero = refl
+count-numbered [] (suc i) = refl
+count-numbered (r ∷ rs) (suc zero) = refl
+count-numbered (r ∷ rs) (suc (suc i)) = count-numbered rs (suc i)
+
+numbers-numbered : (rs : List Route) (n : ℕ) → placesOf (routeNumbered rs n) ≡ numbered (map placesOf rs) n []
+unfolding routeNumbered numbered
+numbers-numbered rs zero = refl
+numbers-numbered [] (suc i) = refl
+numbers-numbered (r ∷ rs) (suc zero) = refl
+numbers-numbered (r ∷ rs) (suc (suc i)) = numbers-numbered rs (suc i)
+
+chainBy : List NumberedTask → ℕ → List ℕ → Chain
+chainBy ts n ch = record { tasks = padded 12 zeroTask (map (taskNumbered ts) ch); places = n }
+
+chain-by : (s : Schedule) (n : ℕ) → chainAt s n ≡ chainBy (tasksIn s) (numbered (map countOf (routesIn s)) n 0) (numbered (chainsIn s) n [])
+unfolding chainBy
+chain-by s n =
+    ap (chainBy (tasksIn s) (routeNumbered (routesIn s) n .count)) (numbers-numbered (routesIn s) n)
+    ∙ ap (λ (k : ℕ). chainBy (tasksIn s) k (numbered (chainsIn s) n [])) (count-numbered (routesIn s) n)
+
+module _ (s t : Schedule) (e : SameSchedule s t) (n : ℕ) where
+  pub chain-same : chainAt s n ≡ chainAt t n
+  chain-same =
+      chain-by s n ∙ ap (λ (x : List NumberedTask). chainBy x (numbered (map countOf (routesIn s)) n 0) (numbered (chainsIn s) n [])) (e .tasks)
+      ∙ ap (λ (x : List ℕ). chainBy (tasksIn t) (numbered x n 0) (numbered (chainsIn s) n [])) (e .places)
+      ∙ ap (λ (x : List (List ℕ)). chainBy (tasksIn t) (numbered (map countOf (routesIn t)) n 0) (numbered x n [])) (e .numbers) ∙ sym (chain-by t n)
+
+  pub choice-same : choiceOf s n ≡ choiceOf t n
+  unfolding choiceOf
+  choice-same = rw (fault-same s t e, e .chains)
+
+  pub chosen-same : chosenOf s n ≡ chosenOf t n
+  unfolding chosenOf
+  chosen-same = rw (choice-same, chain-same)
+
+  -- and every analysis from a schedule.
+  pub after-same : {A : Type 0} (refused : Refusal → A) (answer : Chain → A) → afterChoice s n refused answer ≡ afterChoice t n refused answer
+  unfolding afterChoice
+  after-same refused answer = rw (choice-same, chain-same)

@@ -5,7 +5,7 @@ use mathlib.Core.Path.{_≡_, refl, sym, ap, _∙_}
 use mathlib.Core.Bool.{Bool, true, false, cond}
 use mathlib.Core.List.{List, [], _∷_, map}
 use lib.Dec.{eqb}
-use lib.ListN.{length, getD, take, length-map}
+use lib.ListN.{length, getD, length-map}
 use lib.Seq.{getD-take, length-take-le}
 use Rattle.task.specs.Jobs.{withinLimits}
 use Rattle.task.specs.LinkLaws.{limits-hold}
@@ -16,12 +16,12 @@ use Rattle.chain.proofs.CheckLaws.{check-hyper}
 use Rattle.schedule.specs.declared.NumberedTask.{NumberedTask}
 use Rattle.schedule.specs.declared.Route.{Route}
 use Rattle.schedule.specs.declared.Schedule.{Schedule}
-use Rattle.schedule.specs.Schedules.{numberOf, tasksIn, placesOf, routesIn, chainsIn, known, taskNumbered, noRoute, chainAt}
+use Rattle.schedule.specs.Schedules.{numberOf, tasksIn, placesOf, routesIn, chainsIn, known, taskNumbered, noRoute, routeNumbered, chainAt}
 use Rattle.schedule.specs.Arrays.{Arrays}
 use Rattle.schedule.specs.Rule.{rule}
-use Rattle.schedule.specs.ChainTasks.{chain-tasks, chain-length, chain-twelve}
+use Rattle.schedule.specs.ChainTasks.{route-there, chain-tasks, chain-length, chain-twelve}
 use Rattle.schedule_checks.specs.Checks.{firstFault, firstUnknown}
-use Rattle.schedule_checks.specs.SoundSchedule.{SoundSchedule, fault-cons, placed-at, known-at}
+use Rattle.schedule_checks.specs.SoundSchedule.{SoundSchedule, fault-cons, placed-front, known-at}
 
 -- the task with a known number is within its limits
 known-within : (p before : ℕ) (ts : List NumberedTask) (n : ℕ) → 1 ≤ p → firstFault p before ts ≡ 0 → known (map numberOf ts) n ≡ true → withinLimits (taskNumbered ts n) ≡ true
@@ -57,26 +57,36 @@ placed-of (r ∷ rs) (suc i) h = placed-of rs i (omega arith)
 -- Chain n of a sound schedule.
 module _ (s : Schedule) (a : Arrays s) (k : SoundSchedule s) (n : ℕ) (some : 1 ≤ n) (few : n ≤ s .chains) where
   abbrev route : Route
-  route = getD (s .routes) (n - 1) noRoute
+  route = routeNumbered (routesIn s) n
+
+  is-there : route ≡ getD (s .routes) (n - 1) noRoute
+  is-there = route-there s n some few
 
   in-range : n - 1 < length (routesIn s)
   in-range = omega (arith, length-take-le (s .chains) (s .routes) (omega (arith, a .routes, k .few-chains)))
 
-  is-there : getD (routesIn s) (n - 1) noRoute ≡ route
-  is-there = getD-take (s .chains) (s .routes) (n - 1) noRoute (omega arith)
+  in-front : getD (routesIn s) (n - 1) noRoute ≡ route
+  in-front = getD-take (s .chains) (s .routes) (n - 1) noRoute (omega arith) ∙ sym is-there
 
   twelve : length (route .places) ≡ 12
-  twelve = a .places (n - 1) (omega (arith, k .few-chains))
+  twelve = rw is-there (a .places (n - 1) (omega (arith, k .few-chains)))
 
-  -- it has 1 to 12 places,
+  -- it has an array of twelve tasks,
+  pub sound-twelve : length (chainAt s n .tasks) ≡ 12
+  sound-twelve = chain-twelve (tasksIn s) route twelve
+
+  -- 1 to 12 places,
   pub sound-placed : (1 ≤ route .count) × (route .count ≤ 12)
-  sound-placed = rw is-there at (placed-at (routesIn s) (k .placed) (n - 1) in-range)
+  sound-placed = rw is-there (placed-front (s .routes) (s .chains) (omega (arith, a .routes, k .few-chains)) (k .placed) (n - 1) (omega arith))
+
+  pub sound-length : length (tasksOf (chainAt s n)) ≡ route .count
+  sound-length = chain-length (tasksIn s) route twelve (sound-placed .1)
 
   -- each with a known number,
   sound-known : firstUnknown 1 (map numberOf (tasksIn s)) (placesOf route) ≡ 0
   sound-known =
       let e = known-at (map numberOf (tasksIn s)) (chainsIn s) (k .places-known) (n - 1) (rw (length-map (routesIn s) placesOf) in-range) in
-      ap (firstUnknown 1 (map numberOf (tasksIn s))) (sym (placed-of (routesIn s) (n - 1) in-range ∙ ap placesOf is-there)) ∙ e
+      ap (firstUnknown 1 (map numberOf (tasksIn s))) (sym (placed-of (routesIn s) (n - 1) in-range ∙ ap placesOf in-front)) ∙ e
 
   -- so the verdict is that of its hyperperiod.
   pub sound-chain : verdictOf (chainAt s n) ≡ hyperVerdict (tasksOf (chainAt s n))
@@ -84,10 +94,3 @@ module _ (s : Schedule) (a : Arrays s) (k : SoundSchedule s) (n : ℕ) (some : 1
       let p = sound-placed in
       let e = ap (checks.firstFault 1) (chain-tasks (tasksIn s) route twelve (p .1)) ∙ chain-right (tasksIn s) (placesOf route) 1 1 (omega arith) (k .tasks-right) sound-known in
       sym (check-hyper (route .count) (tasksOf (chainAt s n)) (p .0) (p .1) (sym e))
-
-  pub sound-length : length (tasksOf (chainAt s n)) ≡ route .count
-  sound-length = chain-length (tasksIn s) route twelve (sound-placed .1)
-
--- Every chain of a schedule, sound or not, has an array of twelve tasks.
-pub chain-at-twelve : (s : Schedule) → Arrays s → (n : ℕ) → 1 ≤ n → n ≤ 4 → length (chainAt s n .tasks) ≡ 12
-chain-at-twelve s a n some few = chain-twelve (tasksIn s) (getD (s .routes) (n - 1) noRoute) (a .places (n - 1) (omega arith))

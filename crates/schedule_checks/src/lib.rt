@@ -1,5 +1,5 @@
 // The one judge of a schedule, and the one place where a chain is chosen by its number.
-// `fault_of` and `chain_number` take any schedule and any number; the other functions make one check each.
+// `fault_of` and `chain_number` take any schedule and any number; `chain_in` is for the crates above; the other functions make one check each.
 use chain::Chain;
 use refusal::Refusal;
 use schedule::NumberedTask;
@@ -171,7 +171,22 @@ fn none_chosen(r: Refusal) -> Chosen
     }
 }
 
-// Chain n of a schedule, counted from 1: 8, 5, 6 of the schedule, then 16 for a number that is not in it.
+// Chain n, counted from 1, of a schedule that `fault_of` finds sound: 16 for a number that is not in it. For the crates above, which judge once and choose twice.
+pub fn chain_in(s: Schedule, n: usize) -> Chosen
+    requires { ⌜ faultOf s .number ≡ 0 ⌝ }
+    ensures { λ c. ⌜ c ≡ chosenOf s n ⌝ }
+{
+    if count_right(n, s.chains) {
+        let c = s.routes[n - 1];
+        return Chosen {
+            refusal: refused(0, 0),
+            chain: schedule::chain_of(s, c),
+        };
+    }
+    none_chosen(refused(16, 0))
+}
+
+// Chain n of any schedule: 8, 5, 6 of the schedule, then 16.
 pub fn chain_number(s: Schedule, n: usize) -> Chosen
     ensures { λ c. ⌜ c ≡ chosenOf s n ⌝ }
 {
@@ -179,12 +194,5 @@ pub fn chain_number(s: Schedule, n: usize) -> Chosen
     if r.number != 0 {
         return none_chosen(r);
     }
-    if count_right(n, s.chains) {
-        let c = s.routes[n - 1];
-        return Chosen {
-            refusal: r,
-            chain: schedule::chain_of(s, c),
-        };
-    }
-    none_chosen(refused(16, 0))
+    chain_in(s, n)
 }

@@ -1,6 +1,6 @@
 use native.Mathlib.Omega.{arith}
 use Prim.Native.Nat.{_-_}
-use mathlib.Core.Path.{_≡_, refl}
+use mathlib.Core.Path.{refl}
 use lib.ListN.{List·getD-eq-default}
 use Rattle.capi_schedule.specs.FlatSchedule.{placeFrom}
 use Rattle.capi_schedule.proofs.Flat.{Filled, fill-start, fill-more, fill-leave, fill-end}

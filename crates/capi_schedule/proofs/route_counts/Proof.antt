@@ -1,6 +1,5 @@
-use native.Mathlib.Omega.{arith}
 use Prim.Native.Nat.{_-_}
-use mathlib.Core.Path.{_≡_, refl}
+use mathlib.Core.Path.{refl}
 use Rattle.capi_schedule.specs.FlatSchedule.{countIn}
 use Rattle.capi_schedule.proofs.Flat.{Filled, fill-start, fill-more, fill-end}
 use borrow.Author.Needs.{needs}

@@ -1,8 +1,5 @@
-use native.Mathlib.Omega.{arith}
-use Prim.Native.Nat.{ℕ, _-_, _*_, _≤_}
-use mathlib.Core.Path.{_≡_, refl, ap, _∙_}
+use Prim.Native.Nat.{_*_}
 use lib.ListN.{length, getD}
-use Rattle.capi_schedule.specs.FlatSchedule.{heldFrom}
 use Rattle.capi_schedule.proofs.Flat.{none-counted, none-held}
 use borrow.Author.Needs.{needs}
 use Rattle.capi_schedule.proofs.route_from.Statement.{statement}

@@ -1,6 +1,4 @@
-use native.Mathlib.Omega.{arith}
 use Prim.Native.Nat.{_-_}
-use mathlib.Core.Path.{_≡_, refl}
 use Rattle.schedule.specs.Schedules.{zeroNumbered}
 use Rattle.capi_schedule.specs.FlatSchedule.{numberedAt}
 use Rattle.capi_schedule.proofs.Flat.{Filled, fill-start, fill-more, fill-end}

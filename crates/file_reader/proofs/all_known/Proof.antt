@@ -9,10 +9,6 @@ use Rattle.file_reader.specs.Reading.{numbersFrom, chainField, allKnown}
 use Rattle.file_reader.proofs.Fields.{all-on, all-off, all-end}
 use Rattle.file_reader.proofs.all_known.Statement.{statement}
 use Rattle.file_reader.proofs.all_known.Tie as tie
-use Rattle.file_reader.proofs.all_known.Reads as reads
-use Rattle.file_reader.proofs.all_known.Lts as lts
-use Rattle.little_endian.proofs.number_at.Reads as number-at-reads
-use Rattle.schedule.proofs.find.Reads as find-reads
 
 abbrev Inv-loop : tie.InvT-loop
 Inv-loop rest places numbers count i₀ i = (i ≤ places) × (allKnown (take count numbers) (chainField rest places) ≡ allKnown (take count numbers) (numbersFrom rest (4 + 2 * i) (places - i)))

@@ -10,9 +10,6 @@ use Rattle.file_reader.specs.Reading.{chainField}
 use Rattle.file_reader.proofs.Fields.{entries-none, entries-more}
 use Rattle.file_reader.proofs.chain_entries.Statement.{statement}
 use Rattle.file_reader.proofs.chain_entries.Tie as tie
-use Rattle.file_reader.proofs.chain_entries.Reads as reads
-use Rattle.file_reader.proofs.chain_entries.Lts as lts
-use Rattle.little_endian.proofs.number_at.Reads as number-at-reads
 
 abbrev Inv-loop : tie.InvT-loop
 Inv-loop rest places chain₀ i₀ chain i = (i ≤ places) × (length chain ≡ 12) × (chain ≡ padded 12 0 (chainField rest i))

@@ -9,9 +9,6 @@ use Rattle.file_reader.proofs.Exits.{chain-odd, chain-none, chain-long,
 use borrow.Author.Needs.{needs}
 use Rattle.file_reader.proofs.chain_record.Statement.{statement}
 use Rattle.file_reader.proofs.chain_record.Tie as tie
-use Rattle.file_reader.proofs.chain_record.Reads as reads
-use Rattle.file_reader.proofs.chain_record.Lts as lts
-use Rattle.file_reader.proofs.all_known.Reads as all-known-reads
 
 sub-p : tie.Need-sub-p
 sub-p c = search needs

@@ -2,8 +2,6 @@ use Rattle.file_reader.proofs.Fields.{last-some}
 use borrow.Author.Needs.{needs}
 use Rattle.file_reader.proofs.last_of.Statement.{statement}
 use Rattle.file_reader.proofs.last_of.Tie as tie
-use Rattle.file_reader.proofs.last_of.Reads as reads
-use Rattle.file_reader.proofs.last_of.Lts as lts
 
 returns : tie.Need-returns
 returns c = search needs

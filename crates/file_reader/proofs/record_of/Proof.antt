@@ -6,12 +6,6 @@ use Rattle.file_reader.proofs.Exits.{record-short, record-low, record-p
 use borrow.Author.Needs.{needs}
 use Rattle.file_reader.proofs.record_of.Statement.{statement}
 use Rattle.file_reader.proofs.record_of.Tie as tie
-use Rattle.file_reader.proofs.record_of.Reads as reads
-use Rattle.file_reader.proofs.record_of.Lts as lts
-use Rattle.file_reader.proofs.chain_record.Reads as chain-record-reads
-use Rattle.file_reader.proofs.end_record.Reads as end-record-reads
-use Rattle.file_reader.proofs.task_record.Reads as task-record-reads
-use Rattle.little_endian.proofs.number_at.Reads as number-at-reads
 
 -- past the first three tests the kind decides
 kinded : (c : tie.After-number-at2) → kindRecord (kindField (c .before .before .before .before .before .before .before .args .rest .now)) (take (c .before .before .before .before .before .before .before .args .count) (c .before .before .before .before .before .before .before .args .numbers .now)) (c .before .before .before .before .before .before .before .args .chains) (c .before .before .before .before .before .before .before .args .rest .now) ≡ recordOf (take (c .before .before .before .before .before .before .before .args .count) (c .before .before .before .before .before .before .before .args .numbers .now)) (c .before .before .before .before .before .before .before .args .chains) (c .before .before .before .before .before .before .before .args .rest .now)

@@ -1,4 +1,3 @@
-use native.Mathlib.Omega.{arith}
 use borrow.Author.Needs.{needs}
 use Rattle.file_reader.specs.Records.{length-numbers}
 use Rattle.file_reader.proofs.route_of.Statement.{statement}

@@ -2,9 +2,6 @@ use Rattle.file_reader.proofs.Fields.{task-fields}
 use borrow.Author.Needs.{needs}
 use Rattle.file_reader.proofs.task_field.Statement.{statement}
 use Rattle.file_reader.proofs.task_field.Tie as tie
-use Rattle.file_reader.proofs.task_field.Reads as reads
-use Rattle.file_reader.proofs.task_field.Lts as lts
-use Rattle.little_endian.proofs.number_at.Reads as number-at-reads
 
 number-at-requires : tie.Need-number-at-requires
 number-at-requires c κs = search needs

@@ -11,11 +11,6 @@ use Rattle.file_reader.proofs.Exits.{task-length, task-after, task-many
 use borrow.Author.Needs.{needs}
 use Rattle.file_reader.proofs.task_record.Statement.{statement}
 use Rattle.file_reader.proofs.task_record.Tie as tie
-use Rattle.file_reader.proofs.task_record.Reads as reads
-use Rattle.file_reader.proofs.task_record.Lts as lts
-use Rattle.file_reader.proofs.last_of.Reads as last-of-reads
-use Rattle.file_reader.proofs.task_field.Reads as task-field-reads
-use Rattle.schedule.proofs.follows.Reads as follows-reads
 
 -- what the rule says of the task that was read
 judged : (c : tie.After-follows) → taskRule (lastOf (take (c .before .before .before .before .before .before .before .before .args .count) (c .before .before .before .before .before .before .before .before .args .numbers .now))) (taskField (c .before .before .before .before .before .before .before .before .args .rest .now)) ≡ c .follows .result

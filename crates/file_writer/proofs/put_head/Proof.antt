@@ -3,9 +3,6 @@ use Rattle.file_writer.proofs.Stores.{field-run}
 use borrow.Author.Needs.{needs}
 use Rattle.file_writer.proofs.put_head.Statement.{statement}
 use Rattle.file_writer.proofs.put_head.Tie as tie
-use Rattle.file_writer.proofs.put_head.Reads as reads
-use Rattle.file_writer.proofs.put_head.Lts as lts
-use Rattle.little_endian.proofs.put_number.Reads as put-number-reads
 
 put-number-requires : tie.Need-put-number-requires
 put-number-requires c κs = search needs

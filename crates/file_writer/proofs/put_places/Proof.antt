@@ -9,9 +9,6 @@ use Rattle.file_writer.proofs.Stores.{run-long, places-start, places-tu
 use borrow.Author.Needs.{needs}
 use Rattle.file_writer.proofs.put_places.Statement.{statement}
 use Rattle.file_writer.proofs.put_places.Tie as tie
-use Rattle.file_writer.proofs.put_places.Reads as reads
-use Rattle.file_writer.proofs.put_places.Lts as lts
-use Rattle.little_endian.proofs.put_number.Reads as put-number-reads
 
 abbrev Inv-loop : tie.InvT-loop
 Inv-loop out₀ at places chain i₀ out i = (i ≤ places) × (length out ≡ length out₀) × (sets out₀ at (numbersBytes (take places chain)) ≡ sets out (at + 2 * i) (numbersBytes (drop i (take places chain))))

@@ -1,12 +1,11 @@
 use native.Mathlib.Omega.{arith}
-use Prim.Native.Nat.{ℕ, _+_, _*_, _≤_}
+use Prim.Native.Nat.{_+_, _*_, _≤_}
 use mathlib.Core.Path.{_≡_, sym}
 use lib.ListN.{length, length-map}
 use lib.Seq.{length-take-le}
 use Rattle.schedule.specs.Schedules.{placesOf}
-use Rattle.file_writer.specs.FileBytes.{chainBytes}
 use Rattle.file_writer.specs.Lengths.{length-chain}
-use Rattle.file_writer.proofs.Stores.{run-long, chain-stored}
+use Rattle.file_writer.proofs.Stores.{chain-stored}
 use borrow.Author.Needs.{needs}
 use Rattle.file_writer.proofs.put_route.Statement.{statement}
 use Rattle.file_writer.proofs.put_route.Tie as tie

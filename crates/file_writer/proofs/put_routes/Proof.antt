@@ -1,7 +1,7 @@
 use native.Mathlib.Omega.{arith}
 use Prim.Native.Nat.{_+_, _-_, _≤_}
 use mathlib.Core.Path.{_≡_, refl, sym, ap, _∙_}
-use lib.ListN.{length, take, getD}
+use lib.ListN.{length, getD}
 use lib.Seq.{sets}
 use Rattle.schedule.specs.Schedules.{placesOf, noRoute}
 use Rattle.file_writer.specs.FileBytes.{chainBytes}

@@ -9,9 +9,6 @@ use Rattle.file_writer.proofs.Stores.{run-long, tasks-turn, tasks-end}
 use borrow.Author.Needs.{needs}
 use Rattle.file_writer.proofs.put_tasks.Statement.{statement}
 use Rattle.file_writer.proofs.put_tasks.Tie as tie
-use Rattle.file_writer.proofs.put_tasks.Reads as reads
-use Rattle.file_writer.proofs.put_tasks.Lts as lts
-use Rattle.file_writer.proofs.put_task.Reads as put-task-reads
 
 abbrev Inv-loop : tie.InvT-loop
 Inv-loop out₀ count tasks i₀ out i = (i ≤ count) × (length out ≡ length out₀) × (sets out₀ 0 (tasksBytes (take count tasks)) ≡ sets out (18 * i) (tasksBytes (drop i (take count tasks))))

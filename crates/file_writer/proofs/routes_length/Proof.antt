@@ -1,8 +1,7 @@
 use native.Mathlib.Omega.{arith}
 use Prim.Native.Nat.{_+_, _-_, _*_, _≤_}
-use mathlib.Core.Path.{_≡_, refl, sym, ap, _∙_}
-use lib.ListN.{length, take, getD}
-use Rattle.schedule.specs.Schedules.{noRoute}
+use mathlib.Core.Path.{_≡_, ap}
+use lib.ListN.{length}
 use Rattle.schedule_checks.specs.SoundSchedule.{placed-front}
 use Rattle.file_writer.proofs.Stores.{left, left-long, left-none}
 use borrow.Author.Needs.{needs}

@@ -1,6 +1,6 @@
 use native.Mathlib.Omega.{arith}
-use Prim.Native.Nat.{_+_, _*_, _≤_}
-use mathlib.Core.Path.{_≡_, sym, _∙_}
+use Prim.Native.Nat.{_*_}
+use mathlib.Core.Path.{sym, _∙_}
 use lib.ListN.{length, length-map}
 use Rattle.schedule.specs.Schedules.{tasksIn, chainsIn}
 use Rattle.file_writer.specs.Accepted.{accepted}
@@ -25,7 +25,7 @@ put-tasks-requires : tie.Need-put-tasks-requires
 put-tasks-requires c κs = let f = room (c .before .before .before) in (f .few, omega (arith, f .fits))
 
 mul-put-routes : tie.Need-mul-put-routes
-mul-put-routes c = omega (arith, room (c .before .before .before .before .before .before .before) .few)
+mul-put-routes c = let f = room (c .before .before .before .before .before .before .before) in omega (arith, f .few, f .few-chains)
 
 put-routes-requires : tie.Need-put-routes-requires
 put-routes-requires c κs =

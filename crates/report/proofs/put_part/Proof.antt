@@ -1,5 +1,4 @@
 use native.Mathlib.Omega.{arith}
-use mathlib.Core.Path.{_≡_}
 use Rattle.text.specs.Putting.{puts-two}
 use Rattle.report.specs.Report.{partText}
 use borrow.Author.Needs.{needs}

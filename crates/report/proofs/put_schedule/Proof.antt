@@ -1,7 +1,7 @@
 use native.Mathlib.Omega.{arith}
 use Prim.Native.Nat.{_-_, _*_, _≤_}
 use mathlib.Core.Path.{_≡_, refl, _∙_}
-use lib.ListN.{length, length-map}
+use lib.ListN.{length}
 use Rattle.report.proofs.Parts.{Far, far-start, far-more, far-end}
 use borrow.Author.Needs.{needs}
 use Rattle.report.proofs.put_schedule.Statement.{statement}
@@ -13,12 +13,6 @@ Inv-loop out₀ starts₀ latencies₀ s at₀ i₀ out starts latencies at i =
 
 abbrev μ-loop : tie.MeasureT-loop
 μ-loop out₀ starts₀ latencies₀ s at₀ i₀ out starts latencies at i = s .chains - i
-
--- the array holds the counted chains
-counted : (c : tie.Start Inv-loop μ-loop) → c .args .t2 .chains ≤ length (c .args .t2 .routes)
-counted c =
-    let n : length (c .args .t2 .routes) ≡ 4 = simp length-map at (c .good .1 .0 .1 .1 .1 .0 .1 .0 .1) in
-    omega (arith, n, c .pre .0)
 
 loop-holds : tie.Need-loop-holds Inv-loop μ-loop
 loop-holds c = (omega arith, omega arith, refl, refl, refl, far-start (c .before .before .before .args .t2) (c .before .before .before .args .out .now))
@@ -46,12 +40,12 @@ loop-again c = (
   search needs,
   search needs,
   search needs,
-  far-more (c .before .before .before .before .before .before .before .before .before .before .before .before .before .before .before .before .before .args .t2) (counted (c .before .before .before .before .before .before .before .before .before .before .before .before .before .before .before .before .before)) (c .before .before .before .before .before .before .before .before .before .before .before .before .before .before .before .before .before .args .out .now) (c .before .before .before .before .before .before .before .before .before .before .before .before .before .loop .out) _ (c .before .before .before .before .before .before .before .before .before .before .before .before .before .loop .at) _ (c .before .before .before .before .before .before .before .before .before .before .before .before .before .loop .i) (c .before .before .before .before .before .before .before .before .before .chain-of .result) (c .before .before .before .before .before .before .before .before .before .before .before .before .loop-test .taken) (c .before .before .before .before .before .before .before .before .before .before .before .before .before .loop .inv .5) (c .before .before .before .before .before .before .before .before .before .chain-of .ensures) (c .before .before .before .before .before .before .put-part .ensures .0),
+  far-more (c .before .before .before .before .before .before .before .before .before .before .before .before .before .before .before .before .before .args .t2) (c .before .before .before .before .before .before .before .before .before .before .before .before .before .before .before .before .before .args .out .now) (c .before .before .before .before .before .before .before .before .before .before .before .before .before .loop .out) _ (c .before .before .before .before .before .before .before .before .before .before .before .before .before .loop .at) _ (c .before .before .before .before .before .before .before .before .before .before .before .before .before .loop .i) (c .before .before .before .before .before .before .before .before .before .chain-of .result) (c .before .before .before .before .before .before .before .before .before .before .before .before .loop-test .taken) (c .before .before .before .before .before .before .before .before .before .before .before .before .before .loop .inv .5) (c .before .before .before .before .before .before .before .before .before .chain-of .ensures) (c .before .before .before .before .before .before .put-part .ensures .0),
 )
 
 returns : tie.Need-returns Inv-loop μ-loop
 returns c =
-    (far-end (c .before .before .before .before .before .args .t2) (counted (c .before .before .before .before .before)) (c .before .before .before .before .before .args .out .now) (c .before .loop .out) (c .before .loop .at) (c .before .loop .i) (c .loop-test .left) (c .before .loop .inv .5), omega (arith, c .before .loop .inv .1, c .before .loop .inv .0, c .before .before .before .before .before .pre .0))
+    (far-end (c .before .before .before .before .before .args .t2) (c .before .before .before .before .before .args .out .now) (c .before .loop .out) (c .before .loop .at) (c .before .loop .i) (c .loop-test .left) (c .before .loop .inv .5), omega (arith, c .before .loop .inv .1, c .before .loop .inv .0, c .before .before .before .before .before .pre .0))
 
 chain-of-requires : tie.Need-chain-of-requires Inv-loop μ-loop
 chain-of-requires c κs = search needs

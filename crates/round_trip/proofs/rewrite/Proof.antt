@@ -5,10 +5,6 @@ use Rattle.round_trip.proofs.Trips.{rewrite-refused, rewrite-written}
 use borrow.Author.Needs.{needs}
 use Rattle.round_trip.proofs.rewrite.Statement.{statement}
 use Rattle.round_trip.proofs.rewrite.Tie as tie
-use Rattle.round_trip.proofs.rewrite.Reads as reads
-use Rattle.round_trip.proofs.rewrite.Lts as lts
-use Rattle.file_reader.proofs.read_file.Reads as read-file-reads
-use Rattle.file_writer.proofs.write_file.Reads as write-file-reads
 
 read-file-requires : tie.Need-read-file-requires
 read-file-requires c κs = search needs

@@ -1,4 +1,3 @@
-use mathlib.Core.Path.{_≡_}
 use borrow.Author.Tests.{le-leb, lt-leb}
 use Rattle.schedule_checks.specs.Checks.{countRight}
 use Rattle.schedule_checks.proofs.count_right.Statement.{statement}

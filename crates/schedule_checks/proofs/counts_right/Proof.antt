@@ -1,7 +1,4 @@
-use native.Mathlib.Omega.{arith}
-use mathlib.Core.Path.{_≡_, sym, _∙_}
-use mathlib.Core.Bool.{true, false}
-use borrow.Author.Needs.{needs}
+use mathlib.Core.Path.{sym, _∙_}
 use Rattle.schedule_checks.specs.Checks.{countsRight}
 use Rattle.schedule_checks.specs.SoundSchedule.{count-right}
 use Rattle.schedule_checks.proofs.counts_right.Statement.{statement}

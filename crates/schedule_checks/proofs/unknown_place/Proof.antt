@@ -2,7 +2,7 @@ use native.Mathlib.Omega.{arith}
 use Prim.Native.Nat.{_+_, _-_, _≤_}
 use mathlib.Core.Path.{_≡_, refl, sym, ap, _∙_}
 use mathlib.Core.List.{_∷_, map}
-use lib.ListN.{length, take, drop, getD}
+use lib.ListN.{take, drop, getD}
 use Rattle.chain.proofs.Front.{front-cons, front-end}
 use borrow.Author.Needs.{needs}
 use Rattle.schedule.specs.Schedules.{placesOf, noRoute}
