@@ -1,12 +1,17 @@
-//! What is measured: chains and tables, each with the call that is made on it.
-use crate::programs::{Chain, Program, Table, REFUSED};
+//! What is measured: chains, tables and schedules, each with the call that is made on it.
+use crate::programs::{Chain, Program, Schedule, Table, REFUSED};
+use plain::bookings::check_pair;
 use plain::chain::{check, forward};
+use plain::maker::{make_table, Made};
+use plain::schedule::NumberedTask;
 use plain::task::Task;
 use plain::timing::warm_jobs;
 use std::hint::black_box;
 
-/// Ticks that a reading, walking or ageing case goes through in turn.
+/// Ticks that a reading, walking, ageing or bookings case goes through in turn.
 const TICKS: usize = 256;
+/// A bookings case has fewer ticks where enumerating would take more steps than this for them.
+const MOST_STEPS: u64 = 10_000_000;
 /// Ticks are drawn up to this one, about a day.
 const LATEST: u64 = 100_000_000_000;
 /// What the lists hold before making, so that an entry written past the anchors is seen.
@@ -18,6 +23,7 @@ pub enum Call {
     Delay { chain: Chain, ticks: Vec<u64> },
     Age { chain: Chain, ticks: Vec<u64> },
     Windows { chain: Chain, b: u64, k: u64 },
+    Bookings { schedule: Schedule, ticks: Vec<u64> },
 }
 
 pub struct Case {
@@ -40,9 +46,13 @@ impl Draws {
     }
 }
 
-/// Durations are the periods; the phases differ.
+/// Durations are the periods; the phases differ, and go on from those of `before` tasks.
+fn tasks_after(before: usize, periods: &[u64]) -> Vec<Task> {
+    (before..).zip(periods).map(|(i, &period)| Task { period, duration: period, phase: 97 * i as u64 % period }).collect()
+}
+
 fn chain_of(periods: &[u64]) -> Chain {
-    let tasks: Vec<Task> = periods.iter().enumerate().map(|(i, &period)| Task { period, duration: period, phase: 97 * i as u64 % period }).collect();
+    let tasks = tasks_after(0, periods);
     let flat = tasks.iter().flat_map(|task| [task.period, task.duration, task.phase]).collect();
     Chain { tasks, flat }
 }
@@ -52,9 +62,9 @@ fn hyperperiod(chain: &Chain) -> u64 {
 }
 
 /// The place with the longest period, the lowest among equals, from 1.
-fn longest(chain: &Chain) -> usize {
-    let top = chain.tasks.iter().map(|task| task.period).max().unwrap();
-    chain.tasks.iter().position(|task| task.period == top).unwrap() + 1
+fn longest(tasks: &[Task]) -> usize {
+    let top = tasks.iter().map(|task| task.period).max().unwrap();
+    tasks.iter().position(|task| task.period == top).unwrap() + 1
 }
 
 /// How many ticks a way through the chain takes at most.
@@ -68,7 +78,7 @@ fn named(kind: &str, chain: &Chain) -> String {
 
 fn making(kind: &str, periods: &[u64]) -> Case {
     let chain = chain_of(periods);
-    let (p, h, n) = (longest(&chain), hyperperiod(&chain), periods.len() as u64);
+    let (p, h, n) = (longest(&chain.tasks), hyperperiod(&chain), periods.len() as u64);
     let walked = h / periods[p - 1];
     Case {
         group: "making",
@@ -129,6 +139,46 @@ fn windows(kind: &str, periods: &[u64], k: u64) -> Case {
     }
 }
 
+/// A schedule of two chains without a common task.
+fn schedule_of(first: &[Task], second: &[Task]) -> Schedule {
+    let numbered: Vec<NumberedTask> = (1..).zip(first.iter().chain(second)).map(|(number, &task)| NumberedTask { number, task }).collect();
+    let tasks = numbered.iter().flat_map(|one| [one.number, one.task.period, one.task.duration, one.task.phase]).collect();
+    let n = first.len() as u64;
+    let routes: Vec<Vec<u64>> = vec![(1..=n).collect(), (n + 1..=n + second.len() as u64).collect()];
+    let mut chains = vec![0; 12 * routes.len()];
+    for (entries, route) in chains.chunks_mut(12).zip(&routes) {
+        entries[..route.len()].copy_from_slice(route);
+    }
+    let places = routes.iter().map(|route| route.len() as u64).collect();
+    Schedule { plain: plain::schedule::Schedule { tasks: numbered, chains: routes }, tasks, chains, places }
+}
+
+/// The anchors of a chain in h ticks, a multiple of its hyperperiod.
+fn anchors_in(tasks: &[Task], h: u64) -> u64 {
+    match make_table(tasks, longest(tasks), &mut [], &mut []) {
+        Made::Whole(figures) | Made::Short(figures) => figures.anchors as u64 * (h / figures.hyperperiod),
+        Made::Refused(_) => panic!("a chain that is accepted"),
+    }
+}
+
+fn bookings(kind: &str, periods: [&[u64]; 2]) -> Case {
+    let first = tasks_after(0, periods[0]);
+    let second = tasks_after(first.len(), periods[1]);
+    let (n, m) = (first.len() as u64, second.len() as u64);
+    let (from, h) = check_pair(&first, &second, LATEST).expect("a pair that is accepted");
+    let (a, b) = (anchors_in(&first, h), anchors_in(&second, h));
+    let steps = h * (n + m);
+    let mut draws = Draws(h);
+    let ticks: Vec<u64> = (0..(MOST_STEPS / steps).clamp(1, TICKS as u64)).map(|_| from + draws.below(LATEST)).collect();
+    Case {
+        group: "bookings",
+        name: format!("{kind}, {n} and {m} places, H {h}, anchors {}", a + b),
+        enumerating: steps * ticks.len() as u64,
+        work: a * n + b * m,
+        call: Call::Bookings { schedule: schedule_of(&first, &second), ticks },
+    }
+}
+
 pub fn all() -> Vec<Case> {
     let doubling = |first: u64, n: u32| (0..n).map(|i| first << i).collect::<Vec<u64>>();
     // Periods without a common divisor, with hyperperiods up to the limit of 60,000,000.
@@ -144,8 +194,9 @@ pub fn all() -> Vec<Case> {
         &[4, 5, 7, 9, 11, 13, 17, 19],
         &[4, 5, 7, 9, 11, 13, 17, 19, 5, 7, 11, 13],
     ];
-    // Wat19-C1 of docs/CASE-STUDIES.md.
+    // Wat19-C1 and Wat19-C3 of docs/CASE-STUDIES.md.
     let published = [33_000, 400_000, 15_000, 15_000, 5_000];
+    let beside = [10_000, 15_000, 15_000, 5_000];
     let mut cases: Vec<Case> = [2, 4, 8, 12].iter().map(|&n| making("harmonic", &doubling(250, n))).collect();
     cases.push(making("published", &published));
     cases.extend(coprime.iter().map(|periods| making("co-prime", periods)));
@@ -159,6 +210,15 @@ pub fn all() -> Vec<Case> {
     cases.push(windows("harmonic", &doubling(250, 12), 10));
     cases.extend([0, 4, 6, 3, 7, 9].iter().map(|&i| windows("co-prime", coprime[i], 10)));
     cases.push(windows("co-prime", coprime[3], 100));
+    cases.push(bookings("harmonic", [&[250], &[500]]));
+    cases.push(bookings("harmonic", [&doubling(250, 4), &doubling(4000, 4)]));
+    cases.push(bookings("harmonic", [&doubling(250, 12), &doubling(250, 12)]));
+    cases.push(bookings("published", [&published, &beside]));
+    cases.push(bookings("co-prime", [&[97], &[101]]));
+    cases.push(bookings("co-prime", [&[7, 9], &[10, 11]]));
+    cases.push(bookings("co-prime", [&[768], &[78_125]]));
+    cases.push(bookings("co-prime", [&[4, 5, 7, 9], &[11, 13, 17, 19]]));
+    cases.push(bookings("co-prime", [&[1], &[768, 78_125]]));
     cases
 }
 
@@ -177,6 +237,18 @@ impl Lists {
 
 fn mix(digest: u64, value: u64) -> u64 {
     digest.rotate_left(5) ^ value
+}
+
+/// Apart, so that the loops of the other calls need the same instructions with it as without it.
+#[inline(never)]
+fn repeat_bookings<P: Program>(schedule: &Schedule, ticks: &[u64], repeats: usize) -> u64 {
+    let mut digest = 0;
+    for i in 0..repeats {
+        let mut out = [0; 4];
+        let code = P::bookings(black_box(schedule), ticks[i % ticks.len()], &mut out);
+        digest = out.iter().fold(mix(digest, code), |digest, &figure| mix(digest, figure));
+    }
+    digest
 }
 
 /// Makes the call `repeats` times; a digest of what it answered.
@@ -216,6 +288,7 @@ pub fn repeat<P: Program>(case: &Case, lists: &mut Lists, repeats: usize) -> u64
                 digest = mix(mix(mix(digest, code), out[0]), out[1]);
             }
         }
+        Call::Bookings { schedule, ticks } => digest = repeat_bookings::<P>(schedule, ticks, repeats),
     }
     digest
 }
@@ -252,6 +325,13 @@ pub fn answers<P: Program>(case: &Case) -> Vec<u64> {
             all.push(P::windows(chain, *b, *k, &mut out));
             all.extend(out);
         }
+        Call::Bookings { schedule, ticks } => {
+            for &t in ticks {
+                let mut out = [RUBBISH; 4];
+                all.push(P::bookings(schedule, t, &mut out));
+                all.extend(out);
+            }
+        }
     }
     all
 }
@@ -262,5 +342,6 @@ pub fn refuses(case: &Case, answers: &[u64]) -> bool {
         Call::Make { .. } | Call::Windows { .. } => answers[0] != 0,
         Call::Read { .. } => answers.iter().any(|&answer| REFUSED <= answer),
         Call::Delay { .. } | Call::Age { .. } => answers.chunks(2).any(|pair| pair[0] != 0),
+        Call::Bookings { .. } => answers.chunks(5).any(|five| five[0] != 0),
     }
 }

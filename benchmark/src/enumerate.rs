@@ -1,6 +1,8 @@
 //! The same answers by enumerating ticks, to measure against. The checks are the plain program's.
+use plain::bookings::{check_pair, Bookings};
 use plain::chain::{check, forward};
 use plain::maker::{Figures, Made};
+use plain::schedule::Schedule;
 use plain::table::is_well_formed;
 use plain::task::Task;
 use plain::{Refusal, UPPER_TICK};
@@ -74,6 +76,11 @@ pub fn age(tasks: &[Task], z: u64) -> Result<u64, Refusal> {
     Ok(z - sampled(tasks, z))
 }
 
+/// The booking of a press, walked as the plain program walks.
+fn walked_from(tasks: &[Task], t: u64) -> u64 {
+    tasks[tasks.len() - 1].write(forward(tasks, tasks[0].earliest_after(t)))
+}
+
 /// The delay at every tick of a hyperperiod, walked as the plain program walks; an anchor is a tick whose booking is another than that of the tick before.
 pub fn make_table(tasks: &[Task], p: usize, starts: &mut [u64], latencies: &mut [u64]) -> Made {
     let h = match check(tasks) {
@@ -90,7 +97,7 @@ pub fn make_table(tasks: &[Task], p: usize, starts: &mut [u64], latencies: &mut 
     let mut anchors = 0;
     let mut before = 0;
     for t in x0..x0 + h {
-        let end = tasks[tasks.len() - 1].write(forward(tasks, tasks[0].earliest_after(t)));
+        let end = walked_from(tasks, t);
         if end != before {
             if anchors < starts.len() {
                 starts[anchors] = t;
@@ -156,4 +163,16 @@ pub fn most_misses(tasks: &[Task], bound: u64, k: u64) -> Result<(u64, u64), Ref
         }
     }
     Ok(best)
+}
+
+/// The difference at every tick of the common hyperperiod, walked as the plain program walks.
+pub fn pair_of(schedule: &Schedule, first: usize, second: usize, t: u64) -> Result<Bookings, Refusal> {
+    schedule.check()?;
+    let first = schedule.chain(first)?;
+    let second = schedule.chain(second)?;
+    let (first, second) = (first.tasks(), second.tasks());
+    let (from, h) = check_pair(first, second, t)?;
+    let (a, b) = (walked_from(first, t), walked_from(second, t));
+    let greatest = (from..from + h).map(|tick| walked_from(first, tick).abs_diff(walked_from(second, tick))).max().unwrap_or(0);
+    Ok(Bookings { later: a.max(b), earlier: a.min(b), difference: a.abs_diff(b), greatest })
 }

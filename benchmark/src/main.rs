@@ -45,7 +45,7 @@ const FULL: Limits = Limits { sample: 0.02, rounds: 9, work: u64::MAX, enumerati
 const QUICK: Limits = Limits { sample: 0.001, rounds: 3, work: 2_000_000, enumerating: 20_000_000 };
 
 /// Instructions are not counted for cases with more work than this: callgrind takes minutes for them.
-const COUNTED: u64 = 40_000_000;
+const COUNTED: u64 = 100_000_000;
 
 extern "C" {
     fn clock_gettime(clock: i32, time: *mut [i64; 2]) -> i32;
@@ -200,7 +200,7 @@ fn main() {
     let mut group = "";
     for (index, case) in cases::all().iter().enumerate().filter(|(_, case)| case.work <= limits.work) {
         let mut programs = vec![&PROVED, &PLAIN];
-        if formed && case.group != "reading" {
+        if formed && case.group != "reading" && case.group != "bookings" {
             programs.extend([&BY_VALUE, &FLAT]);
         }
         if case.enumerating <= limits.enumerating {

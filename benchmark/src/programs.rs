@@ -1,6 +1,7 @@
 //! The programs that are measured, under one interface: the one of the calls for C.
 use crate::enumerate;
 use forms::{by_value, flat};
+use plain::bookings::Bookings;
 use plain::maker::Made;
 use plain::task::Task;
 use plain::Refusal;
@@ -19,12 +20,22 @@ pub struct Table {
     pub h: u64,
 }
 
+/// A schedule with two chains, also in two ways: for the plain program, and as lists for C.
+pub struct Schedule {
+    pub plain: plain::schedule::Schedule,
+    pub tasks: Vec<u64>,
+    pub chains: Vec<u64>,
+    pub places: Vec<u64>,
+}
+
 pub trait Program {
     fn make(chain: &Chain, p: usize, starts: &mut [u64], latencies: &mut [u64], figures: &mut [u64; 4]) -> u64;
     fn read(table: &Table, t: u64) -> u64;
     fn delay(chain: &Chain, t: u64, out: &mut u64) -> u64;
     fn age(chain: &Chain, z: u64, out: &mut u64) -> u64;
     fn windows(chain: &Chain, b: u64, k: u64, out: &mut [u64; 2]) -> u64;
+    /// Of the schedule's chains 1 and 2.
+    fn bookings(schedule: &Schedule, t: u64, out: &mut [u64; 4]) -> u64;
 }
 
 fn give_table(made: Made, figures: &mut [u64; 4]) -> u64 {
@@ -57,6 +68,10 @@ fn give_pair(answer: Result<(u64, u64), Refusal>, out: &mut [u64; 2]) -> u64 {
     give(answer.map(|(a, b)| [a, b]), out)
 }
 
+fn give_bookings(answer: Result<Bookings, Refusal>, out: &mut [u64; 4]) -> u64 {
+    give(answer.map(|b| [b.later, b.earlier, b.difference, b.greatest]), out)
+}
+
 /// The archives of the proved crates, as include/meshorchard.h declares them.
 pub struct Proved;
 
@@ -67,6 +82,10 @@ mod c {
         pub fn mo_age(tasks: *const u64, length: usize, places: usize, z: u64, age: *mut u64) -> u64;
         pub fn mo_make_table(tasks: *const u64, length: usize, places: usize, p: usize, starts: *mut u64, n: usize, latencies: *mut u64, m: usize, figures: *mut u64) -> u64;
         pub fn mo_windows(tasks: *const u64, length: usize, places: usize, b: u64, k: u64, misses: *mut u64, first: *mut u64) -> u64;
+        pub fn mo_bookings(
+            tasks: *const u64, tasks_length: usize, count: usize, chains: *const u64, chains_length: usize, places: *const u64, places_length: usize,
+            chain_count: usize, first: usize, second: usize, t: u64, figures: *mut u64,
+        ) -> u64;
     }
 }
 
@@ -94,6 +113,12 @@ impl Program for Proved {
         let [misses, first] = out;
         unsafe { c::mo_windows(chain.flat.as_ptr(), chain.flat.len(), chain.tasks.len(), b, k, misses, first) }
     }
+
+    fn bookings(schedule: &Schedule, t: u64, out: &mut [u64; 4]) -> u64 {
+        let (tasks, chains, places) = (&schedule.tasks, &schedule.chains, &schedule.places);
+        let count = tasks.len() / 4;
+        unsafe { c::mo_bookings(tasks.as_ptr(), tasks.len(), count, chains.as_ptr(), chains.len(), places.as_ptr(), places.len(), places.len(), 1, 2, t, out.as_mut_ptr()) }
+    }
 }
 
 pub struct Plain;
@@ -117,6 +142,10 @@ impl Program for Plain {
 
     fn windows(chain: &Chain, b: u64, k: u64, out: &mut [u64; 2]) -> u64 {
         give_pair(plain::windows::most_misses(&chain.tasks, b, k), out)
+    }
+
+    fn bookings(schedule: &Schedule, t: u64, out: &mut [u64; 4]) -> u64 {
+        give_bookings(plain::bookings::pair_of(&schedule.plain, 1, 2, t), out)
     }
 }
 
@@ -142,9 +171,13 @@ impl Program for Enumerating {
     fn windows(chain: &Chain, b: u64, k: u64, out: &mut [u64; 2]) -> u64 {
         give_pair(enumerate::most_misses(&chain.tasks, b, k), out)
     }
+
+    fn bookings(schedule: &Schedule, t: u64, out: &mut [u64; 4]) -> u64 {
+        give_bookings(enumerate::pair_of(&schedule.plain, 1, 2, t), out)
+    }
 }
 
-/// Plain Rust with the chain copied at each call; reading has no chain and is the plain program's.
+/// Plain Rust with the chain copied at each call; reading and bookings are the plain program's.
 pub struct ByValue;
 
 impl Program for ByValue {
@@ -167,6 +200,10 @@ impl Program for ByValue {
 
     fn windows(chain: &Chain, b: u64, k: u64, out: &mut [u64; 2]) -> u64 {
         give_pair(by_value::most_misses(by_value::chain_from(&chain.flat, chain.tasks.len()), b, k), out)
+    }
+
+    fn bookings(schedule: &Schedule, t: u64, out: &mut [u64; 4]) -> u64 {
+        Plain::bookings(schedule, t, out)
     }
 }
 
@@ -192,5 +229,9 @@ impl Program for Flat {
 
     fn windows(chain: &Chain, b: u64, k: u64, out: &mut [u64; 2]) -> u64 {
         give_pair(flat::most_misses(&chain.flat, chain.tasks.len(), b, k), out)
+    }
+
+    fn bookings(schedule: &Schedule, t: u64, out: &mut [u64; 4]) -> u64 {
+        Plain::bookings(schedule, t, out)
     }
 }

@@ -1,8 +1,10 @@
 //! The program of the crates in plain Rust, to measure against: the same checks in the same order, the same algorithms, u64 arithmetic.
-//! A chain is a slice of tasks, one for each place, and is lent, never copied. Nothing here is proved.
+//! A chain is a slice of tasks, one for each place, and is lent, never copied; out of a schedule it is taken once. Nothing here is proved.
+pub mod bookings;
 pub mod chain;
 pub mod maker;
 pub mod partition;
+pub mod schedule;
 pub mod table;
 pub mod task;
 pub mod timing;

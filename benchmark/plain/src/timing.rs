@@ -22,7 +22,7 @@ pub fn warm_tick(tasks: &[Task]) -> u64 {
     tasks[0].read(backward(tasks, forward(tasks, 0)).unwrap_or(0))
 }
 
-fn last(tasks: &[Task]) -> &Task {
+pub(crate) fn last(tasks: &[Task]) -> &Task {
     &tasks[tasks.len() - 1]
 }
 
