@@ -20,7 +20,6 @@ use Rattle.chain.proofs.CheckLaws.{accepted}
 use Rattle.timing.specs.WarmUp.{warmTick}
 use Rattle.timing.specs.Answers.{upperTick}
 use Rattle.timing.specs.WarmRanges.{warm-range}
-use Rattle.bookings.specs.declared.Bookings.{Bookings}
 use Rattle.bookings.specs.declared.Bookings.the-variants.{Both, Refused}
 use Rattle.bookings.specs.Bookings.{bookingAt, apartAt, pairWarm, pairHyper, greatestApart, commonVerdict, afterBoth, bothAt, bookingsAfter, bookingsOf}
 use Rattle.bookings.specs.EveryPress.{apart-of-all, apart-reached}

@@ -7,7 +7,6 @@ use lib.ListN.{length, getD, length-append}
 use lib.Seq.{sets}
 use Rattle.little_endian.specs.Stores.{sets-append}
 use Rattle.chain.specs.declared.Chain.{Chain}
-use Rattle.schedule.specs.declared.Route.{Route}
 use Rattle.schedule.specs.declared.Schedule.{Schedule}
 use Rattle.schedule.specs.Schedules.{tasksIn, noRoute, chainOf, chainAt}
 use Rattle.schedule.specs.ChainTasks.{route-there}

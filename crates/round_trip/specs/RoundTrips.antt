@@ -80,17 +80,13 @@ right-of s a w =
     }
 
 -- The schedule of such tasks and chains: its routes are those of the chains,
-routes-back : (ts : List NumberedTask) (chs : List (List ℕ)) → Right ts chs → chainsIn (scheduleOf ts chs) ≡ chs
-routes-back ts chs r =
-    let n : length (map routeOf chs) ≡ length chs = length-map chs routeOf in
-    ap (λ (k : ℕ). map placesOf (take k (padded 4 emptyRoute (map routeOf chs)))) (sym n)
-    ∙ ap (map placesOf) (take-padded emptyRoute 4 (map routeOf chs) (omega (arith, r .few-chains)))
-    ∙ routes-same (map numberOf ts) chs (r .placed)
-
 routes-front : (ts : List NumberedTask) (chs : List (List ℕ)) → Right ts chs → routesIn (scheduleOf ts chs) ≡ map routeOf chs
 routes-front ts chs r =
     let n : length (map routeOf chs) ≡ length chs = length-map chs routeOf in
     ap (λ (k : ℕ). take k (padded 4 emptyRoute (map routeOf chs))) (sym n) ∙ take-padded emptyRoute 4 (map routeOf chs) (omega (arith, r .few-chains))
+
+routes-back : (ts : List NumberedTask) (chs : List (List ℕ)) → Right ts chs → chainsIn (scheduleOf ts chs) ≡ chs
+routes-back ts chs r = ap (map placesOf) (routes-front ts chs r) ∙ routes-same (map numberOf ts) chs (r .placed)
 
 -- it is sound,
 right-sound : (ts : List NumberedTask) (chs : List (List ℕ)) → Right ts chs → SoundSchedule (scheduleOf ts chs)

@@ -4,7 +4,7 @@ use mathlib.Core.Path.{_≡_, refl, sym, ap, _∙_}
 use mathlib.Core.Bool.{Bool, true, false, cond}
 use mathlib.Core.List.{List, [], _∷_, map}
 use Prim.Native.Nat.{ℕ, zero, suc}
-use lib.ListN.{getD}
+use lib.ListN.{getD, List·getD-map}
 use Rattle.refusal.specs.declared.Refusal.{Refusal}
 use Rattle.refusal.specs.Refusals.{refusal, none}
 use Rattle.chain.specs.declared.Chain.{Chain}
@@ -12,8 +12,8 @@ use Rattle.chain.specs.Chains.{zeroTask}
 use Rattle.schedule.specs.declared.NumberedTask.{NumberedTask}
 use Rattle.schedule.specs.declared.Route.{Route}
 use Rattle.schedule.specs.declared.Schedule.{Schedule}
-use Rattle.schedule.specs.Schedules.{numberOf, tasksIn, placesOf, countOf, routesIn, chainsIn, taskNumbered, padded, routeNumbered, chainAt}
-use Rattle.schedule_checks.specs.Checks.{countRight, placesRight, countsRight, firstFault, unknownPlace, faultAt, faultOf, choiceOf, noneChosen, chosenOf, afterChoice}
+use Rattle.schedule.specs.Schedules.{numberOf, tasksIn, placesOf, countOf, routesIn, chainsIn, taskNumbered, padded, noRoute, routeNumbered, chainAt}
+use Rattle.schedule_checks.specs.Checks.{countRight, placesRight, countsRight, firstFault, unknownPlace, faultAt, faultOf, choiceOf, chosenOf, afterChoice}
 
 pub record SameSchedule (s t : Schedule) : Type 0 where
   pub count : s .count ≡ t .count
@@ -56,19 +56,10 @@ fault-same s t e =
     ∙ ap (λ (x : List (List ℕ)). faultBy (t .count) (t .chains) (tasksIn t) (map countOf (routesIn t)) x) (e .numbers) ∙ sym (fault-by t)
 
 -- So does the choice of a chain: the chain is that of the counted tasks, its count and its numbers.
-count-numbered : (rs : List Route) (n : ℕ) → routeNumbered rs n .count ≡ numbered (map countOf rs) n 0
+numbered-map : {A : Type 0} (f : Route → A) (rs : List Route) (n : ℕ) → f (routeNumbered rs n) ≡ numbered (map f rs) n (f noRoute)
 unfolding routeNumbered numbered
-count-numbered rs zero = refl
-count-numbered [] (suc i) = refl
-count-numbered (r ∷ rs) (suc zero) = refl
-count-numbered (r ∷ rs) (suc (suc i)) = count-numbered rs (suc i)
-
-numbers-numbered : (rs : List Route) (n : ℕ) → placesOf (routeNumbered rs n) ≡ numbered (map placesOf rs) n []
-unfolding routeNumbered numbered
-numbers-numbered rs zero = refl
-numbers-numbered [] (suc i) = refl
-numbers-numbered (r ∷ rs) (suc zero) = refl
-numbers-numbered (r ∷ rs) (suc (suc i)) = numbers-numbered rs (suc i)
+numbered-map f rs zero = refl
+numbered-map f rs (suc i) = sym (List·getD-map f rs i noRoute)
 
 chainBy : List NumberedTask → ℕ → List ℕ → Chain
 chainBy ts n ch = record { tasks = padded 12 zeroTask (map (taskNumbered ts) ch); places = n }
@@ -76,8 +67,8 @@ chainBy ts n ch = record { tasks = padded 12 zeroTask (map (taskNumbered ts) ch)
 chain-by : (s : Schedule) (n : ℕ) → chainAt s n ≡ chainBy (tasksIn s) (numbered (map countOf (routesIn s)) n 0) (numbered (chainsIn s) n [])
 unfolding chainBy
 chain-by s n =
-    ap (chainBy (tasksIn s) (routeNumbered (routesIn s) n .count)) (numbers-numbered (routesIn s) n)
-    ∙ ap (λ (k : ℕ). chainBy (tasksIn s) k (numbered (chainsIn s) n [])) (count-numbered (routesIn s) n)
+    ap (chainBy (tasksIn s) (routeNumbered (routesIn s) n .count)) (numbered-map placesOf (routesIn s) n)
+    ∙ ap (λ (k : ℕ). chainBy (tasksIn s) k (numbered (chainsIn s) n [])) (numbered-map countOf (routesIn s) n)
 
 module _ (s t : Schedule) (e : SameSchedule s t) (n : ℕ) where
   pub chain-same : chainAt s n ≡ chainAt t n

@@ -1,11 +1,11 @@
 -- A chain of a sound schedule passes 8 and 5: of the checks of a chain only 7 can refuse it (`sound-chain`).
-use Prim.Native.Nat.{ℕ, zero, suc, _+_, _-_, _≤_, _<_}
+use Prim.Native.Nat.{ℕ, _+_, _-_, _≤_, _<_}
 use native.Mathlib.Omega.{arith}
 use mathlib.Core.Path.{_≡_, refl, sym, ap, _∙_}
 use mathlib.Core.Bool.{Bool, true, false, cond}
 use mathlib.Core.List.{List, [], _∷_, map}
 use lib.Dec.{eqb}
-use lib.ListN.{length, getD, length-map}
+use lib.ListN.{length, getD, length-map, List·getD-map}
 use lib.Seq.{getD-take, length-take-le}
 use Rattle.task.specs.Jobs.{withinLimits}
 use Rattle.task.specs.LinkLaws.{limits-hold}
@@ -48,12 +48,6 @@ chain-right ts (n ∷ ch) p q pos f h = go (known (map numberOf ts) n) refl h (c
     go true e k r = rw (known-within 1 0 ts n (omega arith) f e) (r k)
     go false e k r = absurd (omega arith)
 
--- the numbers of a route in a list of routes
-placed-of : (rs : List Route) (i : ℕ) → i < length rs → getD (map placesOf rs) i [] ≡ placesOf (getD rs i noRoute)
-placed-of [] i h = absurd (omega arith)
-placed-of (r ∷ rs) zero h = refl
-placed-of (r ∷ rs) (suc i) h = placed-of rs i (omega arith)
-
 -- Chain n of a sound schedule.
 module _ (s : Schedule) (a : Arrays s) (k : SoundSchedule s) (n : ℕ) (some : 1 ≤ n) (few : n ≤ s .chains) where
   abbrev route : Route
@@ -86,7 +80,7 @@ module _ (s : Schedule) (a : Arrays s) (k : SoundSchedule s) (n : ℕ) (some : 1
   sound-known : firstUnknown 1 (map numberOf (tasksIn s)) (placesOf route) ≡ 0
   sound-known =
       let e = known-at (map numberOf (tasksIn s)) (chainsIn s) (k .places-known) (n - 1) (rw (length-map (routesIn s) placesOf) in-range) in
-      ap (firstUnknown 1 (map numberOf (tasksIn s))) (sym (placed-of (routesIn s) (n - 1) in-range ∙ ap placesOf in-front)) ∙ e
+      ap (firstUnknown 1 (map numberOf (tasksIn s))) (sym (List·getD-map placesOf (routesIn s) (n - 1) noRoute ∙ ap placesOf in-front)) ∙ e
 
   -- so the verdict is that of its hyperperiod.
   pub sound-chain : verdictOf (chainAt s n) ≡ hyperVerdict (tasksOf (chainAt s n))
