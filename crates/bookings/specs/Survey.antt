@@ -12,7 +12,8 @@ use Rattle.chain.specs.declared.Chain.{Chain}
 use Rattle.chain.specs.Chains.{zeroTask, forwardBy, onLatest, backwardBy}
 use Rattle.chain.specs.Hyperperiod.{hyperFrom}
 use Rattle.chain.specs.Checks.{firstFault, hyperVerdict, verdictFor}
-use Rattle.timing.specs.WarmUp.{leastFrom, warmLast, warmAt, warmTick}
+use Rattle.ranges.specs.Least.{leastFrom}
+use Rattle.timing.specs.WarmUp.{warmLast, warmAt, warmTick}
 use Rattle.ranges.specs.Largest.{largest}
 use Rattle.bookings.specs.declared.Bookings.{Bookings}
 use Rattle.bookings.specs.declared.Bookings.the-variants.{Both, Refused}

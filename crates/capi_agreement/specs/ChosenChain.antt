@@ -31,7 +31,7 @@ use Rattle.timing.specs.Delay.{delayAt, firstAged, ageAt}
 use Rattle.timing.specs.Answers.{warmUpAfter, warmUpOf, spanAfter}
 use Rattle.maker.specs.Making.{afterChecks, judged, madeAfter, writtenAfter, startsOf, latenciesOf, overlay}
 use Rattle.maker.proofs.Lists.{sets-overlay}
-use Rattle.windows.specs.Windows as windows-of
+use Rattle.windows.specs.Windows.{afterLimits, windowsAfter}
 use Rattle.capi_timing.specs.Calls.{verdictCode, verdictHyper, spanCode, spanTicks, jobNumber, GivesCheck, GivesWarmUp, GivesDelay, GivesAge}
 use Rattle.capi_maker.specs.Calls.{madeCode, madeNumbers, GivesTable}
 use Rattle.capi_windows.specs.Calls.{windowNumbers, GivesWindows}
@@ -55,7 +55,7 @@ pub record RefusedByAll (c : Chain) (r : Refusal) : Type 0 where
   pub windows : (B k code misses first : ℕ) → GivesWindows c B k code misses first → (code ∷ misses ∷ first ∷ []) ≡ codeOf r ∷ 0 ∷ 0 ∷ []
 
 pub refused-by-all : (c : Chain) (r : Refusal) → verdictOf c ≡ Refused r → RefusedByAll c r
-unfolding warmUpAfter spanAfter judged madeAfter writtenAfter windows-of.judged windows-of.toldAfter
+unfolding warmUpAfter spanAfter judged madeAfter writtenAfter windowsAfter
 refused-by-all c r e = record {
   check = λ code h g. (g .0 ∙ ap verdictCode e, g .1 ∙ ap verdictHyper e);
   warm-up = λ code jobs tick h g.
@@ -70,7 +70,7 @@ refused-by-all c r e = record {
         sym (g .leaves-starts ∙ ap (λ (x : Verdict). overlay (startsOf (writtenAfter c p x)) s) j ∙ sym (sets-overlay [] s)),
         sym (g .leaves-latencies ∙ ap (λ (x : Verdict). overlay (latenciesOf (writtenAfter c p x)) v) j ∙ sym (sets-overlay [] v)),
       );
-  windows = λ B k code misses first g. g .answers ∙ ap (λ (x : Verdict). windowNumbers (windows-of.toldAfter (tasksOf c) B k first (windows-of.afterLimits x k))) e;
+  windows = λ B k code misses first g. g ∙ ap (λ (x : Verdict). windowNumbers (windowsAfter (tasksOf c) B k (afterLimits x k))) e;
 }
   where
     span-refused : (from t span code ticks : ℕ) → (code ≡ spanCode (spanAfter (verdictOf c) from t span)) × (ticks ≡ spanTicks (spanAfter (verdictOf c) from t span)) → (code ≡ codeOf r) × (ticks ≡ 0)

@@ -1,12 +1,13 @@
 -- What windows of jobs answer, as C gets it; and every refusal fits one number.
-use Prim.Native.Nat.{ℕ, _+_, _*_, _≤_, _<_}
+use Prim.Native.Nat.{ℕ, _≤_, _<_}
 use native.Mathlib.Omega.{arith}
 use mathlib.Core.Path.{_≡_, sym, ap, _∙_}
 use mathlib.Core.Bool.{Bool, true, false, cond, _&&_}
-use mathlib.Core.List.{[], _∷_}
+use mathlib.Core.List.{List, [], _∷_}
 use lib.Dec.{leb}
 use Rattle.refusal.specs.declared.Refusal.{Refusal}
 use Rattle.refusal.specs.Refusals.{refusal, codeOf}
+use Rattle.task.specs.declared.Task.{Task}
 use Rattle.task.specs.declared.Job.{Job}
 use Rattle.chain.specs.declared.Chain.{Chain}
 use Rattle.chain.specs.declared.Verdict.{Verdict}
@@ -16,19 +17,16 @@ use Rattle.chain.specs.Checks.{verdictOf}
 use Rattle.chain.proofs.CheckLaws.{SmallVerdict, verdict-small}
 use Rattle.windows.specs.declared.Windows.{Windows}
 use Rattle.windows.specs.declared.Windows.the-variants.{Most, Refused}
-use Rattle.windows.specs.Windows.{told, toldAfter, afterLimits, judged, Answers}
-use Rattle.capi_windows.specs.Calls.{windowNumbers, GivesWindows}
+use Rattle.windows.specs.Windows.{afterLimits, windowsAfter, windowsOf}
+use Rattle.capi_windows.specs.Calls.{windowNumbers}
 
-module _ (c : Chain) (B k : ℕ) (w : Windows) (right : Answers c B k w) where
-  -- the numbers of an answer
-  gives : (code : ℕ) → code ≡ told w .number + 256 * told w .place → GivesWindows c B k code (told w .misses) (told w .first)
-  gives code e = record { answers = ap (λ (x : ℕ). x ∷ told w .misses ∷ told w .first ∷ []) e ∙ ap windowNumbers (right .tells); chosen = right .first }
+-- w is the call's answer, q what it is by definition
+module _ (w q : Windows) (right : w ≡ q) where
+  pub gives-most : (m : ℕ) (j : Job) → w ≡ Most m j → (0 ∷ m ∷ j .0 ∷ []) ≡ windowNumbers q
+  gives-most m j e = ap windowNumbers (sym e ∙ right)
 
-  pub gives-most : (m : ℕ) (j : Job) → w ≡ Most m j → GivesWindows c B k 0 m (j .0)
-  gives-most m j e = rw e at (gives 0 (rw e))
-
-  pub gives-refusal : (r : Refusal) → w ≡ Refused r → (code : ℕ) → code ≡ codeOf r → GivesWindows c B k code 0 0
-  gives-refusal r e code q = rw e at (gives code (rw e q))
+  pub gives-refusal : (r : Refusal) → w ≡ Refused r → (code : ℕ) → code ≡ codeOf r → (code ∷ 0 ∷ 0 ∷ []) ≡ windowNumbers q
+  gives-refusal r e code f = ap (λ (x : ℕ). x ∷ 0 ∷ 0 ∷ []) f ∙ ap windowNumbers (sym e ∙ right)
 
 after-small : (v : Verdict) → SmallVerdict v → (k : ℕ) → SmallVerdict (afterLimits v k)
 after-small (verdict.Refused r) s k = s
@@ -38,14 +36,17 @@ after-small (verdict.Accepted h) s k = go (leb 1 k && leb k 100)
     go true = tt
     go false = (omega arith, omega arith, omega arith)
 
-told-small : (c : Chain) (B k j : ℕ) (v : Verdict) → SmallVerdict v → (toldAfter (tasksOf c) B k j v .number < 256) × (toldAfter (tasksOf c) B k j v .place ≤ 100)
-unfolding toldAfter
-told-small c B k j (verdict.Refused r) s = (s .0, s .1)
-told-small c B k j (verdict.Accepted h) s = (omega arith, omega arith)
+-- the refusal of an answer
+abbrev Small : Windows → Type 0
+Small (Most m j) = Unit {0}
+Small (Refused r) = (r .number < 256) × (r .place ≤ 100)
 
-pub code-fits : (c : Chain) (B k : ℕ) (w : Windows) (r : Refusal) → Answers c B k w → w ≡ Refused r → (r .number < 256) × (r .place ≤ 1000000000)
-unfolding judged
+answer-small : (l : List Task) (B k : ℕ) (v : Verdict) → SmallVerdict v → Small (windowsAfter l B k v)
+unfolding windowsAfter
+answer-small l B k (verdict.Refused r) s = (s .0, s .1)
+answer-small l B k (verdict.Accepted h) s = tt
+
+pub code-fits : (c : Chain) (B k : ℕ) (w : Windows) (r : Refusal) → w ≡ windowsOf c B k → w ≡ Refused r → (r .number < 256) × (r .place ≤ 1000000000)
 code-fits c B k w r a e =
-    let s = told-small c B k (told w .first) (judged c k) (after-small (verdictOf c) (verdict-small c) k) in
-    let t = rw (sym (a .tells), e) at s in
-    (t .0, omega (arith, t .1))
+    let s : Small (Refused r) = rw (sym a ∙ e) at (answer-small (tasksOf c) B k (afterLimits (verdictOf c) k) (after-small (verdictOf c) (verdict-small c) k)) in
+    (s .0, omega (arith, s .1))

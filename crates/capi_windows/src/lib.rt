@@ -5,7 +5,7 @@ ghost use Prim.Native.Nat.{_+_, _*_, _≤_, _<_};
 ghost use Rattle.capi_chain.specs.FlatChain.{chainFrom};
 ghost use Rattle.capi_windows.specs.Calls.{GivesWindows};
 
-// The largest number of misses of b in k successive jobs of the first place, and the first job of a window with that many.
+// The largest number of misses of b in k successive jobs of the first place, and the earliest job from which k jobs have as many.
 #[no_mangle]
 pub extern "C" fn mo_windows(
     tasks: &[u64],

@@ -18,7 +18,7 @@ use Rattle.maker.specs.declared.Made.the-variants as made
 use Rattle.maker.specs.Making.{Makes}
 use Rattle.windows.specs.declared.Windows.{Windows}
 use Rattle.windows.specs.declared.Windows.the-variants as windows
-use Rattle.windows.specs.Windows as call
+use Rattle.windows.specs.Windows.{windowsOf}
 use Rattle.bookings.specs.declared.Bookings.{Bookings}
 use Rattle.bookings.specs.declared.Bookings.the-variants as bookings
 use Rattle.bookings.specs.Bookings.{bookingsOf}
@@ -31,9 +31,13 @@ warmUpFrom s n = afterChoice s n (λ (r : Refusal). warmUpAfter [] (verdict.Refu
 abbrev pub delayFrom : Schedule → ℕ → ℕ → Span
 delayFrom s n t = afterChoice s n span.Refused (λ (c : Chain). delayOf c t)
 
--- ageing.
+-- ageing,
 abbrev pub ageFrom : Schedule → ℕ → ℕ → Span
 ageFrom s n z = afterChoice s n span.Refused (λ (c : Chain). ageOf c z)
+
+-- windows of k jobs.
+abbrev pub windowsFrom : Schedule → ℕ → ℕ → ℕ → Windows
+windowsFrom s n B k = afterChoice s n windows.Refused (λ (c : Chain). windowsOf c B k)
 
 -- Two chains: 16 for either number, then as of the two chains.
 abbrev pub bookingsFrom : Schedule → ℕ → ℕ → ℕ → Bookings
@@ -50,7 +54,3 @@ MakesFrom s n p starts latencies starts′ latencies′ r =
     HoldsAfter s n
     (λ (q : Refusal). (r ≡ made.Refused q) × (starts′ ≡ starts) × (latencies′ ≡ latencies))
     (λ (c : Chain). Makes c p starts latencies starts′ latencies′ r)
-
--- Windows of k jobs; which of several windows with as many misses is free.
-abbrev pub AnswersFrom : Schedule → ℕ → ℕ → ℕ → Windows → Type 0
-AnswersFrom s n B k r = HoldsAfter s n (λ (q : Refusal). r ≡ windows.Refused q) (λ (c : Chain). call.Answers c B k r)

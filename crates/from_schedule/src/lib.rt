@@ -9,7 +9,7 @@ use timing::Span;
 use timing::WarmUp;
 use windows::Windows;
 ghost use mathlib.Core.Path.{_≡_};
-ghost use Rattle.from_schedule.specs.Answers.{warmUpFrom, delayFrom, ageFrom, MakesFrom, AnswersFrom, bookingsFrom};
+ghost use Rattle.from_schedule.specs.Answers.{warmUpFrom, delayFrom, ageFrom, MakesFrom, windowsFrom, bookingsFrom};
 
 // Warm-up of chain n.
 pub fn warm_up_of(s: Schedule, n: usize) -> WarmUp
@@ -72,7 +72,7 @@ pub fn make_table_of(
 
 // Windows of k jobs of chain n.
 pub fn most_misses_of(s: Schedule, n: usize, b: u64, k: u64) -> Windows
-    ensures { λ r. ⌜ AnswersFrom s n b k r ⌝ }
+    ensures { λ r. ⌜ r ≡ windowsFrom s n b k ⌝ }
 {
     let c = schedule_checks::chain_number(s, n);
     let r = c.refusal;

@@ -9,7 +9,8 @@ use Rattle.euclid.specs.Divisor.{euclid, gcdOf, lcmOf}
 use Rattle.chain.specs.Chains.{forwardBy, onLatest, backwardBy}
 use Rattle.chain.specs.Checks.{firstFault, hyperVerdict, verdictFor}
 use Rattle.chain.specs.Hyperperiod.{hyperFrom}
-use Rattle.timing.specs.WarmUp.{leastFrom, warmLast, warmAt, warmTick}
+use Rattle.ranges.specs.Least.{leastFrom}
+use Rattle.timing.specs.WarmUp.{warmLast, warmAt, warmTick}
 use Rattle.partition.specs.Lists.{rangeFrom, keep, fresh, dropRepeats}
 use Rattle.partition.specs.Partitions.{startOf, endOf, keeps, anchorsFrom}
 use Rattle.schedule.specs.Schedules.{padded}

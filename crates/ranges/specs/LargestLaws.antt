@@ -28,15 +28,6 @@ module _ (f : ℕ → ℕ) where
     | no h ↦ let e : x ≡ s = omega arith in rw e (le-max-left (f s) (largest f (suc s) n))
   ]
 
-  -- it is the least number of which that holds,
-  pub largest-least : (n s m : ℕ) → ((x : ℕ) → s ≤ x → x < s + n → f x ≤ m) → largest f s n ≤ m
-  unfolding largest
-  largest-least zero s m h = omega arith
-  largest-least (suc n) s m h =
-      let a : f s ≤ m = h s (omega arith) (omega arith) in
-      let b : largest f (suc s) n ≤ m = largest-least n (suc s) m (λ x u v. h x (omega arith) (omega arith)) in
-      omega arith
-
   -- and one has as much.
   pub reached : (n s : ℕ) → 1 ≤ n → Reached f s n
   unfolding largest
@@ -57,6 +48,11 @@ module _ (f : ℕ → ℕ) where
   largest-parts (suc n) m s =
       let e : s + suc n ≡ suc s + n = omega arith in
       rw (suc-add, e) (omega (arith, largest-parts n m (suc s)))
+
+  -- with one number more,
+  pub largest-more : (n s : ℕ) → largest f s (suc n) ≡ max (largest f s n) (f (s + n))
+  unfolding largest
+  largest-more n s = let e : n + 1 ≡ suc n = omega arith in let p = largest-parts n 1 s in let q = rw e at p in omega arith
 
   -- and where the figure stands still.
   pub largest-still : (v n s : ℕ) → 1 ≤ n → ((t : ℕ) → s ≤ t → t < s + n → f t ≡ v) → largest f s n ≡ v

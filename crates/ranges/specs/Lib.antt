@@ -1,2 +1,4 @@
 pub mod Largest
 pub mod LargestLaws
+pub mod Least
+pub mod LeastLaws

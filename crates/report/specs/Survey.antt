@@ -11,7 +11,8 @@ use Rattle.chain.specs.Checks.{firstFault, hyperVerdict, verdictFor}
 use Rattle.chain.specs.Hyperperiod.{hyperFrom}
 use Rattle.schedule.specs.Schedules.{taskRule, positionOf, known, taskNumbered, padded, routeNumbered}
 use Rattle.file_reader.specs.Reading.{numbersFrom, allKnown, taskRecord, chainRecord, endRecord, kindRecord, recordOf, afterRecord, readFrom}
-use Rattle.timing.specs.WarmUp.{leastFrom, warmLast, warmAt, warmTick}
+use Rattle.ranges.specs.Least.{leastFrom}
+use Rattle.timing.specs.WarmUp.{warmLast, warmAt, warmTick}
 use Rattle.partition.specs.Lists.{rangeFrom, keep, fresh, dropRepeats}
 use Rattle.partition.specs.Partitions.{startOf, endOf, keeps, anchorsFrom}
 use Rattle.table.specs.Anchors.{anchors}

@@ -1,4 +1,4 @@
--- Document 01, "Survey examples": A1 to A8, B, C, D and E as one computed list with one conclusion. Every row is computed from the definitions that the
+-- Document 01, "Survey examples": A1 to A8, B, C, D and E, and the example of order 2 of document 02, as one computed list with one conclusion. Every row is computed from the definitions that the
 -- calls' contracts cite; a call's answer is turned into plain numbers: of a refusal its number and its place, of a success 0 and its values.
 use Prim.Native.Nat.{ℕ, _+_, _-_}
 use mathlib.Core.Path.{_≡_, refl}
@@ -18,7 +18,8 @@ use Rattle.chain.specs.Checks.{firstFault, hyperVerdict, verdictFor, verdictOf}
 use Rattle.timing.specs.declared.WarmUp.{WarmUp}
 use Rattle.timing.specs.declared.Span.{Span}
 use Rattle.timing.specs.declared.Span.the-variants as span
-use Rattle.timing.specs.WarmUp.{leastFrom, warmLast, warmAt, warmTick}
+use Rattle.ranges.specs.Least.{leastFrom}
+use Rattle.timing.specs.WarmUp.{warmLast, warmAt, warmTick}
 use Rattle.timing.specs.Delay.{delayAt, firstAged, ageAt}
 use Rattle.chain.specs.Entries.{entries}
 use Rattle.timing.specs.Answers.{warmUpAfter, warmUpOf, spanAfter, delayOf, ageOf}
@@ -42,8 +43,10 @@ use Rattle.partition.specs.Lists.{rangeFrom, keep, fresh, dropRepeats}
 use Rattle.partition.specs.Partitions.{startOf, endOf, keeps, anchorsFrom}
 use Rattle.maker.specs.Making.{judged, madeAfter, madeOf, writtenAfter, writtenOf, startsOf, latenciesOf, told}
 use Rattle.ranges.specs.Largest.{largest}
-use Rattle.windows.specs.Windows as window
-use Rattle.windows.specs.Windows.{spanOf, misses, missesIn, windowOf, mostMisses}
+use Rattle.windows.specs.declared.Windows.{Windows}
+use Rattle.windows.specs.declared.Windows.the-variants as window
+use Rattle.windows.specs.Windows.{spanOf, misses, missesIn, windowOf, mostMisses, earliestJob, windowsAfter, windowsOf}
+use Rattle.windows.specs.Windows as range-of
 
 -- ---- the chains
 
@@ -121,12 +124,17 @@ abbrev verdictIs : Verdict → List ℕ
 verdictIs (verdict.Accepted h) = 0 ∷ h ∷ []
 verdictIs (verdict.Refused r) = r .number ∷ r .place ∷ []
 
--- What windows tell where job j is chosen, and the first and the last job that may be chosen.
-abbrev windows : Chain → ℕ → ℕ → ℕ → List ℕ
-windows c b k j = let t : window.Told = window.toldAfter (tasksOf c) b k j (window.judged c k) in t .number ∷ t .place ∷ t .misses ∷ t .first ∷ []
+-- The number of misses and the first job.
+abbrev windowsIs : Windows → List ℕ
+windowsIs (window.Most m j) = 0 ∷ m ∷ j .0 ∷ []
+windowsIs (window.Refused r) = r .number ∷ r .place ∷ []
 
+-- The first and the last job of the range, and the misses in the windows from jobs 1, 2 and 3 on, which are chain A's range.
 abbrev range : Chain → List ℕ
-range c = (warmAt (tasksOf c) 0 + 1) ∷ (warmAt (tasksOf c) 0 + window.starts (tasksOf c)) ∷ []
+range c = (warmAt (tasksOf c) 0 + 1) ∷ (warmAt (tasksOf c) 0 + range-of.starts (tasksOf c)) ∷ []
+
+abbrev counts : Chain → ℕ → ℕ → List ℕ
+counts c b k = windowOf (tasksOf c) b k 1 ∷ windowOf (tasksOf c) b k 2 ∷ windowOf (tasksOf c) b k 3 ∷ []
 
 -- ---- the list
 
@@ -149,9 +157,11 @@ computed =
     -- A7
     ∷ runIs (exceedanceOf (starts A 2) (latencies A 2) 2 12 18) ∷ runIs (exceedanceOf (starts A 2) (latencies A 2) 2 12 14)
     ∷ runIs (exceedanceOf (starts A 2) (latencies A 2) 2 12 11) ∷ runIs (exceedanceOf (starts A 2) (latencies A 2) 2 12 10)
-    -- A8: what the call tells where it chooses job 3; the first jobs that it may choose; and the misses in the window from each of them, of which only job 3's has as many
-    ∷ windows A 11 2 3 ∷ range A ∷ (windowOf (tasksOf A) 11 2 1 ∷ windowOf (tasksOf A) 11 2 2 ∷ windowOf (tasksOf A) 11 2 3 ∷ [])
-    ∷ windows A 14 3 1
+    -- A8, with the range of first jobs and the misses in the window from each of them, of which only job 3's has as many
+    ∷ windowsIs (windowsOf A 11 2) ∷ range A ∷ counts A 11 2
+    ∷ windowsIs (windowsOf A 14 3)
+    -- order 2 of document 02: of three windows with as many misses the earliest
+    ∷ windowsIs (windowsOf A 11 3) ∷ counts A 11 3
     -- B
     ∷ starts B 1 ∷ latencies B 1 ∷ ticksOf (delayOf B 4)
     -- C, cut at 1 and at 2
@@ -163,7 +173,7 @@ computed =
     ∷ verdictIs (verdictOf (E 768)) ∷ verdictIs (verdictOf (E 769))
     ∷ []
 
--- What document 01 says, in the same order.
+-- What the documents say, in the same order.
 abbrev pub said : List (List ℕ)
 said =
     (0 ∷ 12 ∷ 0 ∷ 0 ∷ 1 ∷ [])
@@ -176,8 +186,9 @@ said =
     ∷ (0 ∷ 10 ∷ []) ∷ (0 ∷ 174 ∷ 12 ∷ []) ∷ (0 ∷ 18 ∷ [])
     ∷ (0 ∷ 0 ∷ []) ∷ (0 ∷ 4 ∷ [])
     ∷ (0 ∷ 11 ∷ []) ∷ (1 ∷ [])
-    ∷ (0 ∷ 0 ∷ 2 ∷ 3 ∷ []) ∷ (1 ∷ 3 ∷ []) ∷ (1 ∷ 1 ∷ 2 ∷ [])
-    ∷ (0 ∷ 0 ∷ 0 ∷ 1 ∷ [])
+    ∷ (0 ∷ 2 ∷ 3 ∷ []) ∷ (1 ∷ 3 ∷ []) ∷ (1 ∷ 1 ∷ 2 ∷ [])
+    ∷ (0 ∷ 0 ∷ 1 ∷ [])
+    ∷ (0 ∷ 2 ∷ 1 ∷ []) ∷ (2 ∷ 2 ∷ 2 ∷ [])
     ∷ (5 ∷ []) ∷ (13 ∷ []) ∷ (12 ∷ 0 ∷ [])
     ∷ (0 ∷ []) ∷ (15 ∷ []) ∷ (0 ∷ []) ∷ (15 ∷ [])
     ∷ (0 ∷ 10 ∷ 90 ∷ 9 ∷ 0 ∷ []) ∷ (0 ∷ 16 ∷ []) ∷ (12 ∷ 0 ∷ [])
@@ -186,5 +197,5 @@ said =
     ∷ []
 
 pub survey : computed ≡ said
-unfolding computed withinLimits earliestFrom latestBy forwardLink backwardLink euclid gcdOf lcmOf forwardBy onLatest backwardBy hyperFrom firstFault hyperVerdict verdictFor leastFrom warmLast warmAt warmTick delayAt firstAged ageAt entries warmUpAfter spanAfter anchors spaced wellFormed read.reading read.delayAt read.lastAt greatest lowTo low total everyAbove longestRun ticks delaySum exceedance greatestOf lowOf meanOf exceedanceOf rangeFrom keep fresh dropRepeats startOf endOf keeps anchorsFrom judged madeAfter writtenAfter spanOf misses missesIn largest mostMisses window.judged window.toldAfter
+unfolding computed withinLimits earliestFrom latestBy forwardLink backwardLink euclid gcdOf lcmOf forwardBy onLatest backwardBy hyperFrom firstFault hyperVerdict verdictFor leastFrom warmLast warmAt warmTick delayAt firstAged ageAt entries warmUpAfter spanAfter anchors spaced wellFormed read.reading read.delayAt read.lastAt greatest lowTo low total everyAbove longestRun ticks delaySum exceedance greatestOf lowOf meanOf exceedanceOf rangeFrom keep fresh dropRepeats startOf endOf keeps anchorsFrom judged madeAfter writtenAfter spanOf misses missesIn largest mostMisses earliestJob windowsAfter
 survey = refl

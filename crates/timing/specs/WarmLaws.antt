@@ -1,5 +1,5 @@
 -- Warm-up: Wn is the least job from which the backward steps reach the first place (`warm-least`), and from it on every way backward has its end.
-use Prim.Native.Nat.{ℕ, zero, suc, _+_, _-_, _≤_, _<_}
+use Prim.Native.Nat.{ℕ, suc, _+_, _-_, _≤_, _<_}
 use native.Mathlib.Omega.{arith}
 use mathlib.Core.Path.{_≡_, refl, sym, ap, _∙_}
 use mathlib.Core.Logic.{_↔_}
@@ -13,12 +13,13 @@ use Rattle.task.specs.declared.Latest.the-variants.{Of, Nothing}
 use Rattle.task.specs.LinkLaws.{AtLeast}
 use Rattle.chain.specs.Chains.{at, lastPlace, forwardBy, backwardBy, onLatest, walk, back, jobOf}
 use Rattle.chain.specs.Checks.{Sound}
-use Rattle.timing.specs.WarmUp.{isJob, reaches, leastFrom, warmLast, warmAt}
+use Rattle.timing.specs.WarmUp.{isJob, reaches, warmLast, warmAt}
 use Rattle.task.specs.Links.{backwardLink, latestBy}
 use Rattle.task.specs.LinkLaws.{latest-is}
 use Rattle.timing.specs.Delay.{firstAged}
 use Rattle.chain.specs.Galois.{Periods, galois, forward-cut, backward-cut}
 use Rattle.chain.specs.GaloisPair.{countBack, countOf, forward-mono}
+use Rattle.ranges.specs.LeastLaws.{least-end}
 
 -- ---- a job that is there
 
@@ -45,14 +46,6 @@ is-job Nothing h = absurd h
 no-job : (q : Latest) → (AtLeast q 0 → ⊥) → isJob q ≡ false
 no-job (Of i) h = absurd (h (omega arith))
 no-job Nothing h = refl
-
--- the search ends at the first number that passes
-least-end : (test : ℕ → Bool) (n k : ℕ) → ((i : ℕ) → k ≤ i → i < k + n → test i ≡ false) → leastFrom test k n ≡ k + n
-unfolding leastFrom
-least-end test zero k h = omega arith
-least-end test (suc n) k h =
-    let e : suc k + n ≡ k + suc n = omega arith in
-    rw (h k (omega arith) (omega arith)) (least-end test n (suc k) (λ i a b. h i (omega arith) (omega arith)) ∙ e)
 
 -- ---- of a chain that passes the checks 8 and 5
 

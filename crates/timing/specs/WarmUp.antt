@@ -1,12 +1,13 @@
 -- Document 01, "Chains": the warm-up jobs W1 to Wn and the warm-up tick x0. Places are counted from 0 here: W1 is `warmAt l 0`.
-use Prim.Native.Nat.{ℕ, zero, suc, _-_}
-use mathlib.Core.Bool.{Bool, true, false, cond}
+use Prim.Native.Nat.{ℕ, _-_}
+use mathlib.Core.Bool.{Bool, true, false}
 use mathlib.Core.List.{List}
 use Rattle.task.specs.declared.Task.{Task}
 use Rattle.task.specs.declared.Latest.{Latest}
 use Rattle.task.specs.declared.Latest.the-variants.{Of, Nothing}
 use Rattle.task.specs.Jobs.{readOf}
 use Rattle.chain.specs.Chains.{at, lastPlace, backwardBy, walk, back, jobOf}
+use Rattle.ranges.specs.Least.{leastFrom}
 
 abbrev pub isJob : Latest → Bool
 isJob (Of j) = true
@@ -15,11 +16,6 @@ isJob Nothing = false
 -- The backward steps from job k at the last place reach the first place.
 abbrev pub reaches : List Task → ℕ → Bool
 reaches l k = isJob (back l k)
-
--- The least of the n numbers from k on that passes, or k + n.
-unfoldable pub leastFrom : (ℕ → Bool) → ℕ → ℕ → ℕ
-leastFrom test k zero = k
-leastFrom test k (suc n) = cond (test k) k (leastFrom test (suc k) n)
 
 -- Wn: the least job number at the last place from which the backward steps reach the first place.
 -- The job to which the first place's job 0 goes forward does, so the search ends there. `warm-least` in WarmLaws says that it is the least of all.

@@ -1,5 +1,5 @@
--- The ring of flags when a job enters, and the best window when one more is looked at.
-use Prim.Native.Nat.{ℕ, _+_, _≤_, _<_}
+-- The ring of flags when a job enters, and what is known of the first jobs that were looked at.
+use Prim.Native.Nat.{ℕ, suc, _+_, _-_, _≤_, _<_, max}
 use native.Mathlib.Omega.{arith}
 use native.Mathlib.Decide.{decLt, ℕ-discrete}
 use mathlib.Core.Path.{_≡_, sym, ap, _∙_}
@@ -8,12 +8,10 @@ use mathlib.Core.List.{List}
 use lib.ListN.{length, getD, set, length-set}
 use lib.Seq.{getD-set-same, getD-set-other}
 use borrow.Author.Tests.{lt-ltb, le-ltb}
-use Rattle.task.specs.declared.Job.{Job}
 use Rattle.ranges.specs.Largest.{largest}
-use Rattle.ranges.specs.LargestLaws.{largest-top, largest-least}
-use Rattle.windows.specs.declared.Best.{Best}
+use Rattle.ranges.specs.LargestLaws.{largest-none, largest-more}
 use Rattle.windows.specs.Windows.{one}
-use Rattle.windows.specs.Slide.{Ring, nextIn, betterOf, Top}
+use Rattle.windows.specs.Scan.{Ring, nextIn}
 
 module _ (miss : ℕ → Bool) where
   -- an entry after a store: the flag of job m at i, else what it was
@@ -26,78 +24,54 @@ module _ (miss : ℕ → Bool) where
   ]
 
   -- nothing is stored yet
-  pub ring-none : (s : ℕ) (flags : List ℕ) → length flags ≡ 100 → Ring miss 0 s 0 flags
-  ring-none s flags whole = record { length-is = whole; ahead = λ x j a b e. absurd (omega arith); behind = λ x j a e. absurd (omega arith) }
+  pub ring-none : (k s : ℕ) (flags : List ℕ) → length flags ≡ 100 → Ring miss k s s 0 flags
+  ring-none k s flags whole = record { length-is = whole; ahead = λ x y a b f e. absurd (omega arith); behind = λ x y a f e. absurd (omega arith) }
 
-  -- the first window grows by a job
-  pub ring-grows : (n s : ℕ) (flags : List ℕ) (v : ℕ) → Ring miss n s 0 flags → n < 100 → v ≡ one (miss (s + n)) → Ring miss (n + 1) s 0 (set flags n v)
-  ring-grows n s flags v r few e = record {
-    length-is = length-set flags n v ∙ r .length-is;
-    ahead = λ x j a b q. stored flags n (s + n) v (r .length-is) few e x j (λ h. omega arith) (λ h. r .ahead x j a (omega arith) q);
-    behind = λ x j a q. absurd (omega arith);
-  }
+  module _ (k s j i : ℕ) (flags : List ℕ) (r : Ring miss k s j i flags) where
+    -- job s leaves
+    pub ring-leaves : Ring miss k (s + 1) j i flags
+    ring-leaves = record { length-is = r .length-is; ahead = λ x y a b f e. r .ahead x y a b (omega arith) e; behind = λ x y a f e. r .behind x y a (omega arith) e }
 
-  module _ (k s i : ℕ) (flags : List ℕ) (r : Ring miss k s i flags) (inside : i < k) (few : k ≤ 100) where
-    -- the flag of the job that leaves
-    pub ring-first : getD flags i 0 ≡ one (miss s)
-    ring-first = r .ahead i s (omega arith) inside (omega arith)
+    module _ (inside : i < k) where
+      -- of a whole window, entry i is that of its first job
+      pub ring-first : j ≡ s + k → getD flags i 0 ≡ one (miss s)
+      ring-first e = r .ahead i s (omega arith) inside (omega arith) (omega arith)
 
-    module _ (v : ℕ) (e : v ≡ one (miss (s + k))) where
-      -- the job that enters takes its entry
-      enters : Ring miss k (s + 1) (i + 1) (set flags i v)
-      enters = record {
-        length-is = length-set flags i v ∙ r .length-is;
-        ahead = λ x j a b q. stored flags i (s + k) v (r .length-is) (omega arith) e x j (λ h. absurd (omega arith)) (λ h. r .ahead x j (omega arith) b (omega arith));
-        behind = λ x j a q. stored flags i (s + k) v (r .length-is) (omega arith) e x j (λ h. omega arith) (λ h. r .behind x j (omega (arith, h)) (omega arith));
-      }
+      -- job j takes entry i
+      module _ (few : k ≤ 100) (v : ℕ) (e : v ≡ one (miss j)) where
+        enters : Ring miss k s (j + 1) (i + 1) (set flags i v)
+        enters = record {
+          length-is = length-set flags i v ∙ r .length-is;
+          ahead = λ x y a b f q. stored flags i j v (r .length-is) (omega arith) e x y (λ h. absurd (omega arith)) (λ h. r .ahead x y (omega arith) b f (omega arith));
+          behind = λ x y a f q. stored flags i j v (r .length-is) (omega arith) e x y (λ h. omega arith) (λ h. r .behind x y (omega (arith, h)) f (omega arith));
+        }
 
-      -- and after the last entry comes the first
-      pub ring-turns : Ring miss k (s + 1) (nextIn i k) (set flags i v)
-      ring-turns = elim (decLt (i + 1) k) [
-        | yes h ↦ rw (lt-ltb (i + 1) k h) enters
-        | no h ↦
-            rw (le-ltb (i + 1) k (omega arith))
-            (record { length-is = enters .length-is; ahead = λ x j a b q. enters .behind x j (omega arith) (omega arith); behind = λ x j a q. absurd (omega arith) })
-      ]
+        -- and after the last entry comes the first
+        pub ring-enters : Ring miss k s (j + 1) (nextIn i k) (set flags i v)
+        ring-enters = elim (decLt (i + 1) k) [
+          | yes h ↦ rw (lt-ltb (i + 1) k h) enters
+          | no h ↦
+              rw (le-ltb (i + 1) k (omega arith))
+              (record { length-is = enters .length-is; ahead = λ x y a b f q. enters .behind x y (omega arith) f (omega arith); behind = λ x y a f q. absurd (omega arith) })
+        ]
 
 pub next-inside : (i k : ℕ) → i < k → nextIn i k < k
 next-inside i k h = elim (decLt (i + 1) k) [ yes g ↦ rw (lt-ltb (i + 1) k g) g | no g ↦ rw (le-ltb (i + 1) k (omega arith)) (omega arith) ]
 
--- ---- the best window
+-- ---- the first jobs that were looked at: none,
 
-module _ (best : Best) (count : ℕ) (j : Job) where
-  pub better-new : best .misses < count → record { misses = count; first = j } ≡ betterOf best count j
-  unfolding betterOf
-  better-new h = rw (lt-ltb (best .misses) count h)
+pub none-seen : (f : ℕ → ℕ) (from : ℕ) → 0 ≡ largest f from (from - from)
+none-seen f from = let z : from - from ≡ 0 = omega arith in rw z (sym (largest-none f from))
 
-  pub better-kept : count ≤ best .misses → best ≡ betterOf best count j
-  unfolding betterOf
-  better-kept h = rw (le-ltb (best .misses) count h)
+-- and one more
 
-module _ (f : ℕ → ℕ) where
-  pub top-first : (s m : ℕ) → m ≡ f s → Top f s s s m
-  top-first s m e = record { low = omega arith; high = omega arith; has = sym e; top = λ x a b. let q : x ≡ s = omega arith in rw (q, e) (omega arith) }
+module _ (f : ℕ → ℕ) (from s : ℕ) (low : from ≤ s) (m : ℕ) (e : m ≡ f s) where
+  pub before-more : (goal : ℕ) → ((x : ℕ) → from ≤ x → x < s → f x < goal) → m < goal → (x : ℕ) → from ≤ x → x < s + 1 → f x < goal
+  before-more goal h g x a b = elim (decLt x s) [ yes u ↦ h x a u | no u ↦ let q : x ≡ s = omega arith in rw q (omega arith) ]
 
-  module _ (from s : ℕ) (best : Best) (t : Top f from s (best .first .0) (best .misses)) (low : from ≤ s) where
-    -- one more window is looked at
-    pub top-more : (count : ℕ) (j : Job) → j .0 ≡ s + 1 → count ≡ f (s + 1) → Top f from (j .0) (betterOf best count j .first .0) (betterOf best count j .misses)
-    top-more count j q e = elim (decLt (best .misses) count) [
-      | yes h ↦
-          rw (← better-new best count j h)
-          (record { low = omega arith; high = omega arith; has = ap f q ∙ sym e; top = λ x a b. each x a (omega arith) count (omega arith) (omega arith) })
-      | no h ↦
-          rw (← better-kept best count j (omega arith))
-          (record { low = t .low; high = omega (arith, t .high); has = t .has; top = λ x a b. each x a (omega arith) (best .misses) (omega arith) (omega arith) })
-    ]
-      where
-        each : (x : ℕ) → from ≤ x → x ≤ s + 1 → (m : ℕ) → best .misses ≤ m → count ≤ m → f x ≤ m
-        each x a b m u v = elim (decLt s x) [
-          | yes h ↦ let z : x ≡ s + 1 = omega arith in rw z (omega arith)
-          | no h ↦ omega (arith, t .top x a (omega arith))
-        ]
-
-  -- the best of all is the largest
-  pub top-largest : (from last j m n : ℕ) → Top f from last j m → from + n ≡ last + 1 → m ≡ largest f from n
-  top-largest from last j m n t e =
-      let a : largest f from n ≤ m = largest-least f n from m (λ x u v. t .top x u (omega arith)) in
-      omega (arith, t .has, largest-top f n from j (t .low) (omega (arith, t .high)))
+  pub most-more : (most : ℕ) → most ≡ largest f from (s - from) → max most m ≡ largest f from (s + 1 - from)
+  most-more most h =
+      let q : s + 1 - from ≡ suc (s - from) = omega arith in
+      let p : from + (s - from) ≡ s = omega arith in
+      let g = rw p at (largest-more f (s - from) from) in
+      rw q (omega arith)

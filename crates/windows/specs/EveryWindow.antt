@@ -1,12 +1,13 @@
 -- Every window of jobs after the warm-up job, over all time: misses repeat with the hyperperiod (`misses-period`), so no window has more than
--- the largest over one hyperperiod of first jobs (`largest-of-all`), and one has as many (`largest-reached`).
+-- the largest over one hyperperiod of first jobs (`largest-of-all`), and the earliest job that has as many is there (`earliest`).
 use Prim.Native.Nat.{ℕ, zero, suc, _+_, _-_, _*_, _/_, _%_, _≤_, _<_}
 use native.Mathlib.Omega.{arith}
 use native.Mathlib.Nat.{mod-lt, div-add-mod'}
 use native.Mathlib.Decide.{decLe}
 use mathlib.Core.Path.{_≡_, refl, ap, _∙_}
 use mathlib.Core.List.{List}
-use lib.Dec.{ltb}
+use lib.Dec.{ltb, eqb}
+use borrow.Author.Tests.{eqb-true, eqb-false, eq-eqb}
 use Rattle.task.specs.declared.Task.{Task}
 use Rattle.task.specs.Jobs.{writeOf}
 use Rattle.chain.specs.Chains.{at, lastPlace, walk}
@@ -16,7 +17,8 @@ use Rattle.chain.specs.Checks.{Sound}
 use Rattle.timing.specs.WarmUp.{warmAt}
 use Rattle.timing.specs.Period.{walk-period}
 use Rattle.ranges.specs.LargestLaws.{largest-top, reached}
-use Rattle.windows.specs.Windows.{spanOf, misses, one, missesIn, starts, windowOf, mostMisses, First}
+use Rattle.ranges.specs.LeastLaws.{first-found}
+use Rattle.windows.specs.Windows.{spanOf, misses, one, missesIn, starts, windowOf, mostMisses, earliestJob}
 
 -- ---- of a chain that passes the checks 8 and 5
 
@@ -74,13 +76,21 @@ module _ (l : List Task) (ok : Sound l) where
         let p = window-periods k (d / q) (warmAt l 0 + 1 + d % q) (omega arith) in
         rw (e, p) (largest-top (windowOf l B k) q (warmAt l 0 + 1) (warmAt l 0 + 1 + d % q) (omega arith) (omega arith))
 
-    -- and there is a first job of a window with that many, so that the call has a choice.
-    pub record Attained (k : ℕ) : Type 0 where
-      pub job : ℕ
-      pub is : First l B k job
+    -- and the call's job is the first of the range from which k jobs have as many: those before it have fewer.
+    pub record Earliest (k j : ℕ) : Type 0 where
+      pub after : warmAt l 0 + 1 ≤ j
+      pub within : j ≤ warmAt l 0 + starts l
+      pub has : windowOf l B k j ≡ mostMisses l B k
+      pub fewer : (s : ℕ) → warmAt l 0 < s → s < j → windowOf l B k s < mostMisses l B k
 
-    pub largest-reached : (k : ℕ) → Attained k
-    unfolding mostMisses
-    largest-reached k =
+    pub earliest : (k : ℕ) → Earliest k (earliestJob l B k)
+    unfolding mostMisses earliestJob
+    earliest k =
         let r = reached (windowOf l B k) (starts l) (warmAt l 0 + 1) starts-pos in
-        record { job = r .number; is = record { after = r .low; within = omega (arith, r .high); has = r .is } }
+        let q = first-found (λ s. eqb (windowOf l B k s) (mostMisses l B k)) (starts l) (warmAt l 0 + 1) (r .number) (r .low) (r .high) (eq-eqb _ _ (r .is)) in
+        record {
+          after = q .low;
+          within = omega (arith, q .high);
+          has = eqb-true _ _ (q .passes);
+          fewer = λ s u v. let a = largest-of-all k s u in let b : windowOf l B k s ≡ mostMisses l B k → ⊥ = eqb-false _ _ (q .before s (omega arith) v) in omega arith;
+        }

@@ -1,7 +1,7 @@
--- How the number of misses in a window changes when the window slides by a job.
-use Prim.Native.Nat.{ℕ, zero, suc, _+_, _-_, _≤_}
+-- How the number of misses changes when a job enters a window or leaves it.
+use Prim.Native.Nat.{ℕ, zero, suc, _+_, _-_, _≤_, _<_}
 use native.Mathlib.Omega.{arith}
-use mathlib.Core.Path.{_≡_, refl}
+use mathlib.Core.Path.{_≡_}
 use mathlib.Core.Bool.{Bool, true, false}
 use Rattle.windows.specs.Windows.{one, missesIn}
 
@@ -10,9 +10,9 @@ one-small true = omega arith
 one-small false = omega arith
 
 module _ (miss : ℕ → Bool) where
-  pub none-yet : (s : ℕ) → 0 ≡ missesIn miss s 0
+  pub none-yet : (s : ℕ) → 0 ≡ missesIn miss s (s - s)
   unfolding missesIn
-  none-yet s = refl
+  none-yet s = let z : s - s ≡ 0 = omega arith in rw z
 
   -- one more job at the end
   pub one-more : (k s : ℕ) → missesIn miss s (suc k) ≡ missesIn miss s k + one (miss (s + k))
@@ -24,16 +24,27 @@ module _ (miss : ℕ → Bool) where
       let g = rw e at f in
       omega arith
 
-  -- The sliding law: one job enters and one leaves.
-  pub slides : (k s : ℕ) → missesIn miss (suc s) k ≡ missesIn miss s k + one (miss (s + k)) - one (miss s)
-  unfolding missesIn
-  slides k s = omega (arith, one-more k s)
+  -- Of the jobs from s up to before j: one more, job j, enters,
+  pub enters : (s j : ℕ) → s ≤ j → missesIn miss s (j + 1 - s) ≡ missesIn miss s (j - s) + one (miss j)
+  enters s j h =
+      let e : j + 1 - s ≡ suc (j - s) = omega arith in
+      let g : s + (j - s) ≡ j = omega arith in
+      rw e (rw g at (one-more (j - s) s))
 
-  -- the job that leaves is counted before
-  pub leaves : (k s : ℕ) → 1 ≤ k → one (miss s) ≤ missesIn miss s k
+  -- and the first, job s, leaves.
+  pub leaves : (s j : ℕ) → s < j → missesIn miss s (j - s) ≡ one (miss s) + missesIn miss (s + 1) (j - (s + 1))
   unfolding missesIn
-  leaves zero s h = absurd (omega arith)
-  leaves (suc k) s h = omega arith
+  leaves s j h =
+      let e : j - s ≡ suc (j - (s + 1)) = omega arith in
+      let g : s + 1 ≡ suc s = omega arith in
+      rw e (rw g)
+
+  -- more jobs, no fewer misses
+  pub grows : (s n m : ℕ) → n ≤ m → missesIn miss s n ≤ missesIn miss s m
+  unfolding missesIn
+  grows s zero m h = omega arith
+  grows s (suc n) zero h = absurd (omega arith)
+  grows s (suc n) (suc m) h = omega (arith, grows (suc s) n m (omega arith))
 
   pub at-most : (k s : ℕ) → missesIn miss s k ≤ k
   unfolding missesIn

@@ -1,9 +1,9 @@
--- Document 01, "Windows of jobs": the jobs that miss, the largest number of misses in k successive jobs, and what the call answers.
-use Prim.Native.Nat.{ℕ, zero, suc, _+_, _-_, _/_, _≤_}
-use mathlib.Core.Path.{_≡_}
+-- Document 01, "Windows of jobs": the jobs that miss, the largest number of misses in k successive jobs, the earliest job from which
+-- there are as many (document 02, order 2), and what the call answers.
+use Prim.Native.Nat.{ℕ, zero, suc, _+_, _-_, _/_}
 use mathlib.Core.Bool.{Bool, true, false, cond, _&&_}
 use mathlib.Core.List.{List}
-use lib.Dec.{leb, ltb}
+use lib.Dec.{leb, ltb, eqb}
 use Rattle.refusal.specs.Refusals.{refusal}
 use Rattle.task.specs.declared.Task.{Task}
 use Rattle.task.specs.Jobs.{readOf, writeOf}
@@ -12,10 +12,10 @@ use Rattle.chain.specs.declared.Verdict.{Verdict}
 use Rattle.chain.specs.declared.Verdict.the-variants as verdict
 use Rattle.chain.specs.Chains.{tasksOf, at, lastPlace, walk}
 use Rattle.chain.specs.Hyperperiod.{hyperOf}
-use Rattle.chain.specs.Checks.{verdictOf}
-use Rattle.chain.specs.StandsFor.{StandsFor}
+use Rattle.chain.specs.Checks.{verdictOf, verdictIn}
 use Rattle.timing.specs.WarmUp.{warmAt}
 use Rattle.ranges.specs.Largest.{largest}
+use Rattle.ranges.specs.Least.{leastFrom}
 use Rattle.windows.specs.declared.Windows.{Windows}
 use Rattle.windows.specs.declared.Windows.the-variants.{Most, Refused}
 
@@ -50,53 +50,23 @@ windowOf l B k s = missesIn (misses l B) s k
 unfoldable pub mostMisses : List Task → ℕ → ℕ → ℕ
 mostMisses l B k = largest (windowOf l B k) (warmAt l 0 + 1) (starts l)
 
--- The first job of a window with that many. Which of several such windows is free.
-pub record First (l : List Task) (B k j : ℕ) : Type 0 where
-  pub after : warmAt l 0 + 1 ≤ j
-  pub within : j ≤ warmAt l 0 + starts l
-  pub has : windowOf l B k j ≡ mostMisses l B k
+-- The earliest first job of a window with that many. There is one in the range: `earliest` in EveryWindow.
+unfoldable pub earliestJob : List Task → ℕ → ℕ → ℕ
+earliestJob l B k = leastFrom (λ s. eqb (windowOf l B k s) (mostMisses l B k)) (warmAt l 0 + 1) (starts l)
 
 -- After the chain's own checks, 8, 5 and 7: 15, k outside its limits, 1 to 100.
 abbrev pub afterLimits : Verdict → ℕ → Verdict
 afterLimits (verdict.Refused r) k = verdict.Refused r
 afterLimits (verdict.Accepted h) k = cond (leb 1 k && leb k 100) (verdict.Accepted h) (verdict.Refused (refusal 15 0))
 
--- The checks of the call, in this order.
-unfoldable pub judged : Chain → ℕ → Verdict
-judged c k = afterLimits (verdictOf c) k
+-- What the call answers after the chain's own checks.
+unfoldable pub windowsAfter : List Task → ℕ → ℕ → Verdict → Windows
+windowsAfter l B k (verdict.Refused r) = Refused r
+windowsAfter l B k (verdict.Accepted h) = Most (mostMisses l B k) (record { 0 = earliestJob l B k })
 
--- What the call answers, j being the job that it chooses.
-unfoldable pub windowsAfter : List Task → ℕ → ℕ → ℕ → Verdict → Windows
-windowsAfter l B k j (verdict.Refused r) = Refused r
-windowsAfter l B k j (verdict.Accepted h) = Most (mostMisses l B k) (record { 0 = j })
+abbrev pub windowsOf : Chain → ℕ → ℕ → Windows
+windowsOf c B k = windowsAfter (tasksOf c) B k (afterLimits (verdictOf c) k)
 
--- Document 01's number, place and figures of each answer: number 0 is a success, and a refusal's figures are zeros.
-pub record Told : Type 0 where
-  pub number : ℕ
-  pub place : ℕ
-  pub misses : ℕ
-  pub first : ℕ
-
-abbrev pub told : Windows → Told
-told (Most m j) = record { number = 0; place = 0; misses = m; first = j .0 }
-told (Refused r) = record { number = r .number; place = r .place; misses = 0; first = 0 }
-
--- What the call tells, j being the job that it chooses.
-unfoldable pub toldAfter : List Task → ℕ → ℕ → ℕ → Verdict → Told
-toldAfter l B k j (verdict.Refused r) = record { number = r .number; place = r .place; misses = 0; first = 0 }
-toldAfter l B k j (verdict.Accepted h) = record { number = 0; place = 0; misses = mostMisses l B k; first = j }
-
--- What holds of the job that is chosen; in a refusal there is none.
-abbrev pub FirstAfter : List Task → ℕ → ℕ → ℕ → Verdict → Type 0
-FirstAfter l B k j (verdict.Refused r) = Unit {0}
-FirstAfter l B k j (verdict.Accepted h) = First l B k j
-
--- The call: the refusals and the number of misses by equations, whatever job is chosen, and what holds of that job.
-pub record Answers (c : Chain) (B k : ℕ) (r : Windows) : Type 0 where
-  pub answer : r ≡ windowsAfter (tasksOf c) B k (told r .first) (judged c k)
-  pub tells : told r ≡ toldAfter (tasksOf c) B k (told r .first) (judged c k)
-  pub first : FirstAfter (tasksOf c) B k (told r .first) (judged c k)
-
--- The call on a list of tasks: the same for every chain that the list stands for.
-abbrev pub AnswersFor : List Task → ℕ → ℕ → Windows → Type 0
-AnswersFor l B k r = (c : Chain) → StandsFor l c → Answers c B k r
+-- The same of a list of tasks, one for each place.
+abbrev pub windowsIn : List Task → ℕ → ℕ → Windows
+windowsIn l B k = windowsAfter l B k (afterLimits (verdictIn l) k)

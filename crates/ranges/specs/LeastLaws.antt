@@ -1,0 +1,53 @@
+-- The least of successive numbers that passes a test: where one passes it is the first that does, and where none does the search ends after them.
+use Prim.Native.Nat.{ℕ, zero, suc, _+_, _≤_, _<_}
+use native.Mathlib.Omega.{arith}
+use native.Mathlib.Decide.{decLt}
+use mathlib.Core.Path.{_≡_, refl, sym, ap, _∙_}
+use mathlib.Core.Bool.{Bool, true, false, cond, true≢false}
+use Rattle.ranges.specs.Least.{leastFrom}
+
+-- j is the first of the n numbers from s on that passes
+pub record FirstOf (test : ℕ → Bool) (s n j : ℕ) : Type 0 where
+  pub low : s ≤ j
+  pub high : j < s + n
+  pub passes : test j ≡ true
+  pub before : (x : ℕ) → s ≤ x → x < j → test x ≡ false
+
+module _ (test : ℕ → Bool) where
+  -- Where none passes, the search ends after them.
+  pub least-end : (n s : ℕ) → ((x : ℕ) → s ≤ x → x < s + n → test x ≡ false) → leastFrom test s n ≡ s + n
+  unfolding leastFrom
+  least-end zero s h = omega arith
+  least-end (suc n) s h =
+      let e : suc s + n ≡ s + suc n = omega arith in
+      rw (h s (omega arith) (omega arith)) (least-end n (suc s) (λ x a b. h x (omega arith) (omega arith)) ∙ e)
+
+  -- Where one passes, the first that does is found,
+  pub first-found : (n s x : ℕ) → s ≤ x → x < s + n → test x ≡ true → FirstOf test s n (leastFrom test s n)
+  unfolding leastFrom
+  first-found zero s x a b e = absurd (omega arith)
+  first-found (suc n) s x a b e = go (test s) refl (λ h. first-found n (suc s) x h (omega arith) e)
+    where
+      later : test s ≡ false → s < x
+      later p = elim (decLt s x) [ yes h ↦ h | no h ↦ let z : s ≡ x = omega arith in absurd (true≢false (sym e ∙ ap test (sym z) ∙ p)) ]
+
+      go : (t : Bool) → test s ≡ t → (s < x → FirstOf test (suc s) n (leastFrom test (suc s) n)) → FirstOf test s (suc n) (cond t s (leastFrom test (suc s) n))
+      go true p rest = record { low = omega arith; high = omega arith; passes = p; before = λ y u v. absurd (omega arith) }
+      go false p rest =
+          let r = rest (later p) in
+          record {
+            low = omega (arith, r .low);
+            high = omega (arith, r .high);
+            passes = r .passes;
+            before = λ y u v. elim (decLt s y) [ yes h ↦ r .before y h v | no h ↦ let z : y ≡ s = omega arith in ap test z ∙ p ];
+          }
+
+  -- and there is but one first.
+  pub first-least : (n s j : ℕ) → FirstOf test s n j → j ≡ leastFrom test s n
+  first-least n s j r = go (first-found n s j (r .low) (r .high) (r .passes))
+    where
+      go : {i : ℕ} → FirstOf test s n i → j ≡ i
+      go {i} q = elim (decLt i j) [
+        | yes h ↦ absurd (true≢false (sym (q .passes) ∙ r .before i (q .low) h))
+        | no h ↦ elim (decLt j i) [ yes g ↦ absurd (true≢false (sym (r .passes) ∙ q .before j (r .low) g)) | no g ↦ omega arith ]
+      ]
