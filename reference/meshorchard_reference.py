@@ -1,9 +1,9 @@
 """Reference program of Meshorchard: delay tables for chains of
 fixed-duration tasks of cave-survey laser instruments.
 
-It is written from document 01 and order 1 of document 02 alone and follows
-their definitions as literally as running time allows.  It uses the standard
-library only.
+It is written from document 01 and orders 1 and 2 of document 02 alone and
+follows their definitions as literally as running time allows.  It uses the
+standard library only.
 
 Conventions
   A task is (T, D, F): period, duration, phase.
@@ -593,9 +593,12 @@ def misses(tasks, j, B):
 
 
 def windows(tasks, B, k):
-    """Windows: ("ok", count, every starting job with that count).
+    """Windows: ("ok", count, job), or refusal 8, 5, 7, 15.
 
-    The first job of a window lies in W1 + 1 to W1 + H/T1.
+    Document 01, "Windows of jobs": count is the largest number of misses
+    in k successive jobs, the first of which lies in W1 + 1 to W1 + H/T1.
+    Document 02, order 2: job is "the earliest starting job whose window
+    holds that many misses, within the range of jobs as before".
     """
     answer = warm_up(tasks)
     if answer[0] != "ok":
@@ -609,12 +612,14 @@ def windows(tasks, B, k):
     missing = {}
     for j in range(first_jobs.start, first_jobs.stop - 1 + k):
         missing[j] = misses(tasks, j, B)
+    # Every window is counted by itself.  It may run past the range.
     counts = {}
     for first in first_jobs:
         counts[first] = sum(missing[j] for j in range(first, first + k))
     largest = max(counts.values())
-    return ("ok", largest,
-            {first for first in first_jobs if counts[first] == largest})
+    # Of all first jobs with that count, the earliest is asked for.
+    earliest = min(first for first in first_jobs if counts[first] == largest)
+    return ("ok", largest, earliest)
 
 
 # ---------------------------------------------------------------------------
@@ -892,7 +897,10 @@ def make_of(task_count, tasks, chain_count, chains, n, p, starts, latencies):
 
 
 def windows_of(task_count, tasks, chain_count, chains, n, B, k):
-    """Windows of chain n.  Refusals 8, 5, 6, 16, then those of windows."""
+    """Windows of chain n, with the earliest job as in windows.
+
+    Refusals 8, 5, 6, 16, then those of windows.
+    """
     chain = chain_of_schedule(task_count, tasks, chain_count, chains, n)
     if chain[0] != "ok":
         return chain

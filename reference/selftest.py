@@ -3,7 +3,7 @@
 Run: python3 reference/selftest.py
 It prints one line for each group and last `N passed, M failed`.
 Each check compares two things that are computed independently: a printed
-figure of document 01 with a computed one, a figure had by hand with a
+figure of document 01 or 02 with a computed one, a figure had by hand with a
 computed one, or two different methods.
 """
 
@@ -256,8 +256,10 @@ def group_survey_a(_rng):
     same(ref.throughput(*TABLE_A), ("ok", 2, 12), "throughput")
     for B, expected in ((18, 0), (14, 4), (11, 11), (10, "endless")):
         same(ref.exceedance(*TABLE_A, B), ("ok", expected), "A7 of %d" % B)
-    same(ref.windows(A, 11, 2), ("ok", 2, {3}), "A8 B 11 k 2")
-    same(ref.windows(A, 14, 3), ("ok", 0, {1, 2, 3}), "A8 B 14 k 3")
+    same(ref.windows(A, 11, 2), ("ok", 2, 3), "A8 B 11 k 2")
+    same(ref.windows(A, 14, 3), ("ok", 0, 1), "A8 B 14 k 3")
+    # The example of order 2: every window of three jobs holds 2 misses.
+    same(ref.windows(A, 11, 3), ("ok", 2, 1), "order 2 B 11 k 3")
 
 
 def group_survey_b_to_e(_rng):
@@ -664,7 +666,7 @@ def group_call_refusals(_rng):
     for k in (0, 101, 2 ** 64 - 1):
         same(ref.windows([good], 0, k), ("refused", 15, 0), "k %d" % k)
     for k in (1, 100):
-        same(ref.windows([good], 0, k)[:2], ("ok", k), "k %d" % k)
+        same(ref.windows([good], 0, k), ("ok", k, 1), "k %d" % k)
     # Ticks: the write of the warm-up job and the upper tick.
     same(ref.delay([good], UPPER)[0], "ok", "upper tick")
     same(ref.delay([good], UPPER + 1), ("refused", 13, 0), "above")
@@ -679,30 +681,191 @@ def group_call_refusals(_rng):
 # Windows
 # ---------------------------------------------------------------------------
 
+def span_by_ticks(tasks, job):
+    """A job's forward end less its own read, by letting ticks pass."""
+    T, D, F = tasks[0]
+    read = F + job * T
+    tick = read + D
+    for T, D, F in tasks[1:]:
+        # Equal ticks connect, so the write's own tick is tried first.
+        while tick < F or (tick - F) % T:
+            tick += 1
+        tick += D
+    return tick - read
+
+
+def literal_spans(tasks):
+    """W1, the length of the range H/T1, and the spans of the jobs.
+
+    The spans are those of all windows of up to 100 jobs that begin in a
+    range twice as long.
+    """
+    W1 = literal_warm_up(tasks)[0]
+    length = literal_hyperperiod(tasks) // tasks[0][0]
+    jobs = range(W1 + 1, W1 + 2 * length + 100)
+    return W1, length, {j: span_by_ticks(tasks, j) for j in jobs}
+
+
+def check_windows(found, W1, length, spans, B, k, what):
+    """Check an answer of windows by what document 01 and order 2 say of it.
+
+    It holds of one answer only.  Returned is what kind of answer it is.
+    """
+    what = "windows of %s B %d k %d" % (what, B, k)
+    counts = {}
+    for first in range(W1 + 1, W1 + 2 * length + 1):
+        counts[first] = len([j for j in range(first, first + k)
+                             if spans[j] > B])
+    in_range = range(W1 + 1, W1 + length + 1)
+    word, count, job = found
+    same(word, "ok", what)
+    same(job in in_range, True, what + ", job in the range")
+    same(count, max(counts[first] for first in in_range),
+         what + ", largest count")
+    same(counts.get(job), count, what + ", count of the job")
+    same([first for first in in_range if first < job
+          and counts[first] >= count], [], what + ", earlier jobs have fewer")
+    # The second half of the longer range brings nothing new.
+    same(max(counts.values()), count, what + ", count beyond the range")
+    kinds = set()
+    if length >= 4 and job > W1 + 3 * length // 4:
+        kinds.add("late in the range")
+    if length >= 4 and job == W1 + length:
+        kinds.add("the last job of the range")
+    if count > 0 and k <= length and job + k - 1 > W1 + length:
+        kinds.add("over the end of the range")
+    if count > 0 and job > W1 + 1 and any(
+            counts[first] == count for first in in_range if first > job):
+        kinds.add("one of several, not the first job")
+    if any(counts[first] > 0 for first in in_range if first < job):
+        kinds.add("after windows with fewer misses")
+    return kinds
+
+
+def bounds_around(spans):
+    """B just below, at and just above every span, and the extremes."""
+    return sorted({0, 2 ** 64 - 1} | {span + more for span in spans.values()
+                                      for more in (-1, 0, 1)})
+
+
 def group_windows(rng):
-    for _ in range(250):
-        tasks = small_chain(rng, 120)
-        _ok, way, _x0, H = ref.warm_up(tasks)
-        T1, _D1, F1 = tasks[0]
-        W1 = way[0]
-        k = rng.choice([1, 2, 3, rng.randint(1, 100), 100])
+    met = {}
+
+    def check(tasks, B, k, own):
+        for kind in check_windows(ref.windows(tasks, B, k), *own, B, k,
+                                  repr(tasks)):
+            met[kind] = met.get(kind, 0) + 1
+
+    for _ in range(100):
+        tasks = small_chain(rng, 60)
+        own = literal_spans(tasks)
         # A press one tick before job j's read is served by job j.
-        jobs = range(W1 + 1, W1 + H // T1 + 1 + k)
-        own = {j: literal_delay(tasks, F1 + j * T1 - 1) - 1 for j in jobs}
-        for B in {0, 2 ** 64 - 1, max(own.values()), max(own.values()) - 1,
-                  min(own.values()), rng.choice(list(own.values()))}:
-            largest = -1
-            firsts = set()
-            for first in range(W1 + 1, W1 + H // T1 + 1):
-                count = len([j for j in range(first, first + k)
-                             if own[j] > B])
-                if count > largest:
-                    largest = count
-                    firsts = set()
-                if count == largest:
-                    firsts.add(first)
-            same(ref.windows(tasks, B, k), ("ok", largest, firsts),
-                 "windows %r B %d k %d" % (tasks, B, k))
+        T1, _D1, F1 = tasks[0]
+        for j, span in own[2].items():
+            same(span, literal_delay(tasks, F1 + j * T1 - 1) - 1, "span")
+        for B in bounds_around(own[2]):
+            for k in (1, 2, 3, rng.randint(4, 98), 99, 100):
+                check(tasks, B, k, own)
+    # With every phase of the second place the misses move through the
+    # range: best windows early, late, and over its end.
+    for T1, T2 in ((5, 7), (7, 5), (7, 11), (4, 9), (9, 4), (8, 13),
+                   (13, 8), (5, 12)):
+        for F in range(T1 + T2):
+            tasks = [(T1, T1, 0), (T2, T2, F)]
+            own = literal_spans(tasks)
+            for B in bounds_around(own[2]):
+                for k in (1, 2, 3, 4, 5):
+                    check(tasks, B, k, own)
+    # Three places, of which the last is the quicker one.
+    for F in range(7):
+        tasks = [(3, 2, 1), (7, 5, F), (4, 4, 0)]
+        own = literal_spans(tasks)
+        for B in bounds_around(own[2]):
+            for k in (1, 2, 3, 5, 99, 100):
+                check(tasks, B, k, own)
+    # Ranges longer than the longest window.
+    for tasks in ([(401, 401, 0), (503, 503, 400)], [(2, 1, 0), (251, 3, 9)],
+                  [(3, 5, 1), (10, 3, 0), (101, 7, 50)],
+                  [(1, 1, 0), (150, 20, 149)], [(7, 7, 3), (143, 1, 0)]):
+        own = literal_spans(tasks)
+        same(own[1] > 100, True, "a long range")
+        high = sorted(set(own[2].values()))
+        for B in (high[0] - 1, high[0], high[len(high) // 3], high[-3],
+                  high[-2], high[-1], rng.choice(high)):
+            for k in (1, 2, 3, 10, 99, 100):
+                check(tasks, B, k, own)
+    for kind in ("late in the range", "the last job of the range",
+                 "over the end of the range",
+                 "one of several, not the first job",
+                 "after windows with fewer misses"):
+        same(met.get(kind, 0) > 50, True, "often met: " + kind)
+
+
+def group_windows_by_hand(_rng):
+    # Spans of jobs 1 to 8 are 18, 13, 15, 17, 12, 14, 16, 18, and W1 is 0.
+    # The last window of the range takes job 8, which lies past it.
+    tasks = [(5, 5, 0), (7, 7, 2)]
+    for B, k, expected in ((15, 1, (1, 1)), (15, 2, (2, 7)), (15, 3, (2, 6)),
+                           (13, 3, (3, 6)), (17, 2, (1, 1)), (16, 2, (1, 1)),
+                           (16, 4, (2, 1)), (18, 9, (0, 1)), (11, 9, (9, 1))):
+        same(ref.windows(tasks, B, k), ("ok", *expected),
+             "last window, B %d k %d" % (B, k))
+    # W is 2, 1, 4.  Jobs 3, 4 and 5 have the spans 18, 15 and 16.
+    same(ref.windows([(3, 2, 1), (7, 5, 2), (4, 4, 0)], 14, 3), ("ok", 3, 3),
+         "three misses at once")
+    # Chain D: W1 is 9, and job 10 alone is in the range.  Its span is 6.
+    chain_d = [(10, 2, 0), (10, 1, 95)]
+    for B, k, expected in ((11, 2, (0, 10)), (6, 100, (0, 10)),
+                           (5, 100, (100, 10)), (5, 1, (1, 10))):
+        same(ref.windows(chain_d, B, k), ("ok", *expected),
+             "D B %d k %d" % (B, k))
+    # The span is 904 and the wait for the read.  A wait of 502 needs
+    # 401 (j + 1) = 401 modulo 503: job 0, which does not count, and job 503.
+    # W1 is 1.  The earliest window that takes job 503 ends with it.
+    tasks = [(401, 401, 0), (503, 503, 400)]
+    for k in (1, 2, 3, 10, 99, 100):
+        same(ref.windows(tasks, 1405, k), ("ok", 1, 504 - k),
+             "one miss in 503 jobs, k %d" % k)
+        same(ref.windows(tasks, 1406, k), ("ok", 0, 2), "no miss, k %d" % k)
+    # Job W1 itself waits longer than any later one, but does not count.
+    tasks = [(100, 1, 0), (10, 1, 50)]
+    for k in (1, 2, 100):
+        same(ref.windows(tasks, 20, k), ("ok", 0, 1), "W1 waits, k %d" % k)
+        same(ref.windows(tasks, 10, k), ("ok", k, 1), "all miss, k %d" % k)
+    # The largest values: each write is the next place's read.
+    worst = [(1_000_000, 4_000_000, 1_000_000)] * 12
+    for k in (1, 100):
+        same(ref.windows(worst, 48_000_000, k), ("ok", 0, 1), "span is B")
+        same(ref.windows(worst, 47_999_999, k), ("ok", k, 1), "span above B")
+        same(ref.windows(worst, 2 ** 64 - 1, k), ("ok", 0, 1), "largest B")
+
+
+def group_windows_of_schedules(rng):
+    for turn in range(60):
+        chains = [small_chain(rng, 40) for _ in range(1 + turn % 4)]
+        arguments = schedule(*schedule_of_chains(rng, chains))
+        for n, tasks in enumerate(chains, start=1):
+            own = literal_spans(tasks)
+            for B in bounds_around(own[2]):
+                k = rng.choice([1, 2, 3, 99, 100, rng.randint(1, 100)])
+                found = ref.windows_of(*arguments, n, B, k)
+                check_windows(found, *own, B, k, "chain %d of %r"
+                              % (n, chains))
+            for k in (0, 101, 2 ** 64 - 1):
+                same(ref.windows_of(*arguments, n, 0, k), ("refused", 15, 0),
+                     "k %d" % k)
+        for n in (0, len(chains) + 1, 2 ** 64 - 1):
+            for k in (0, 1, 100):
+                same(ref.windows_of(*arguments, n, 0, k), ("refused", 16, 0),
+                     "chain number %d" % n)
+    # Chain A as the first, and as the last of four.
+    tasks = [(1, 4, 4, 0), (2, 6, 6, 0), (9, 10, 3, 5)]
+    for n, chains in ((1, [[1, 2]]), (4, [[9], [2], [2, 1], [1, 2]])):
+        arguments = schedule(tasks, chains)
+        for B, k, expected in ((11, 3, (2, 1)), (11, 2, (2, 3)),
+                               (14, 3, (0, 1))):
+            same(ref.windows_of(*arguments, n, B, k), ("ok", *expected),
+                 "chain A as chain %d" % n)
 
 
 # ---------------------------------------------------------------------------
@@ -1826,6 +1989,8 @@ GROUPS = [
     ("two chains at every tick", group_pairs_every_tick),
     ("two chains, large values", group_pairs_large),
     ("refusals of two chains", group_pair_refusals),
+    ("windows by hand", group_windows_by_hand),
+    ("windows by chain number", group_windows_of_schedules),
 ]
 
 
