@@ -19,8 +19,8 @@
  *   libcapi_file.a      mo_read_file, mo_write_file, mo_chain_of_schedule
  *   libcapi_bookings.a  mo_bookings
  *   libcapi_report.a    mo_report
- * libcapi_windows.a, libcapi_file.a, libcapi_bookings.a and libcapi_report.a need memcpy and memset from the C library; the other four need
- * nothing (`nm -u` on an archive tells; tests/c/run looks).
+ * libcapi_file.a, libcapi_bookings.a and libcapi_report.a need memcpy and memset from the C library, libcapi_windows.a memset; the other
+ * four need nothing (`nm -u` on an archive tells; tests/c/run looks).
  *
  * The archives are for x86-64, in position-independent code that uses its SSE2 registers. The toolchain compiles for no other processor
  * today: the proofs say nothing of a processor, and the back end that turns proved code into machine code has this one target. On an
@@ -58,7 +58,7 @@ extern "C" {
 #define MO_STACK_MAKE_TABLE 512u
 #define MO_STACK_READ_TABLE 128u
 #define MO_STACK_FIGURES 128u /* each of mo_greatest, mo_low, mo_mean, mo_throughput and mo_exceedance */
-#define MO_STACK_WINDOWS 1856u
+#define MO_STACK_WINDOWS 1216u
 #define MO_STACK_READ_FILE 3136u
 #define MO_STACK_WRITE_FILE 5248u
 #define MO_STACK_CHAIN_OF_SCHEDULE 7232u
@@ -221,10 +221,11 @@ uint64_t mo_make_table(const uint64_t *tasks, size_t tasks_length, size_t places
 
 /*
  * Windows of jobs: a job of the first place misses when more than b ticks pass from its read to the write at which its way forward ends.
- * misses becomes the largest number of misses in k successive jobs after the warm-up job W1, over all time, and first the job, counted
- * from 0, with which such a window begins. first is one of the jobs W1 + 1 to W1 + h / T, h being the hyperperiod and T the first place's
- * period; where several windows have as many misses, any of them may be given. b may be any number. The call looks at h / T first jobs,
- * and each costs the same for every k.
+ * misses becomes the largest number of misses in k successive jobs after the warm-up job W1, over all time, and first the earliest job,
+ * counted from 0, with which such a window begins: every window of k jobs that begins after W1 and before first has fewer misses. first is
+ * one of the jobs W1 + 1 to W1 + h / T, h being the hyperperiod and T the first place's period. b may be any number. The call looks at h / T
+ * first jobs at most twice, once for the largest number and once for the earliest job that has it, and each look costs one walk, whatever
+ * k is. The first window with k misses ends the call.
  *
  * Refuses, after the chain's own refusals:
  *   MO_WINDOW_OUTSIDE_LIMITS   k is not 1 to 100.

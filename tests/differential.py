@@ -45,7 +45,10 @@ class Comparison:
 
     def meet(self, answer):
         """Counts an answer of the reference, as "ok" or by the refusal's number."""
-        name = "ok" if answer[0] == "ok" else answer[1]
+        self.note("ok" if answer[0] == "ok" else answer[1])
+
+    def note(self, name):
+        """Counts an answer of this kind."""
         self.met[name] += 1
         self.lately.add(name)
 
@@ -167,11 +170,22 @@ def window_bounds(r, tasks, warm):
 
 
 def compare_windows(ours, numbers, tasks, b, k, compare):
-    """One answer: the number of misses is the reference's, and the first job one of all that it finds."""
-    mine, theirs = ours.windows(numbers, len(tasks), b, k), reference.windows(tasks, b, k)
-    if theirs[0] == "ok" and mine[0] == "ok" and mine[2] in theirs[2]:
-        theirs = (*theirs[:2], mine[2])
-    compare.same(mine, theirs, "windows", tasks, b, k)
+    """One answer, which is the reference's."""
+    theirs = reference.windows(tasks, b, k)
+    compare.same(ours.windows(numbers, len(tasks), b, k), theirs, "windows", tasks, b, k)
+    compare.meet(theirs)
+    return theirs
+
+
+def note_window(tasks, warm, b, k, count, job, compare):
+    """Where the earliest window lies in its range, and whether the last one of the range has as many misses."""
+    first, last = warm[1][0] + 1, warm[1][0] + warm[3] // tasks[0][0]
+    if first < job:
+        compare.note("the last job" if job == last else "a later job")
+        if last < job + k - 1:
+            compare.note("past the range")
+    if job < last and count == sum(reference.misses(tasks, j, b) for j in range(last, last + k)):
+        compare.note("as many at the end")
 
 
 @group
@@ -181,7 +195,11 @@ def windows(ours, r, factor, compare):
         tasks = inputs.wide_window_chain(r) if i % 25 == 0 else inputs.cut_chain(r)
         numbers, warm = lent(r, tasks), reference.warm_up(tasks)
         for k in r.sample([0, 1, 2, 3, r.randint(4, 12), r.randint(4, 100), 99, 100, 101, library.LARGEST], 4):
-            compare_windows(ours, numbers, tasks, r.choice(window_bounds(r, tasks, warm)), k, compare)
+            b = r.choice(window_bounds(r, tasks, warm))
+            theirs = compare_windows(ours, numbers, tasks, b, k, compare)
+            if theirs[0] == "ok":
+                note_window(tasks, warm, b, k, *theirs[1:], compare)
+    compare.must_meet("ok", 15, "a later job", "the last job", "past the range", "as many at the end")
 
 
 @group
@@ -194,6 +212,7 @@ def windows_refused(ours, r, factor, compare):
         numbers = lent(r, tasks)
         for k in (0, 1, 101, 2**32 + 1, library.LARGEST):
             compare_windows(ours, numbers, tasks, inputs.any_number(r), k, compare)
+    compare.must_meet("ok", 5, 7, 8, 15)
 
 
 def compare_figures(ours, lent, table, compare):
@@ -579,10 +598,7 @@ def compare_analyses(ours, r, schedule, number, tasks, compare):
         compare.same(analysed(ours, schedule, number, ours.delay, t), reference.delay_of(*said, t), "delay", schedule, number, t)
         compare.same(analysed(ours, schedule, number, ours.age, t), reference.age_of(*said, t), "age", schedule, number, t)
     b, k = r.choice(window_bounds(r, tasks, warm)), r.choice([0, 1, 2, r.randint(3, 100), 101])
-    mine, theirs = analysed(ours, schedule, number, ours.windows, b, k), reference.windows_of(*said, b, k)
-    if theirs[0] == "ok" and mine[0] == "ok" and mine[2] in theirs[2]:
-        theirs = (*theirs[:2], mine[2])
-    compare.same(mine, theirs, "windows", schedule, number, b, k)
+    compare.same(analysed(ours, schedule, number, ours.windows, b, k), reference.windows_of(*said, b, k), "windows", schedule, number, b, k)
     p, size = r.randint(0, len(tasks) + 1), r.choice([0, 1, 3, 60, 60])
     starts, latencies = inputs.lent_lists(r, size, size)
     mine = analysed(ours, schedule, number, ours.make, p, starts, latencies)

@@ -52,7 +52,10 @@ fn tasks_after(before: usize, periods: &[u64]) -> Vec<Task> {
 }
 
 fn chain_of(periods: &[u64]) -> Chain {
-    let tasks = tasks_after(0, periods);
+    chain_with(tasks_after(0, periods))
+}
+
+fn chain_with(tasks: Vec<Task>) -> Chain {
     let flat = tasks.iter().flat_map(|task| [task.period, task.duration, task.phase]).collect();
     Chain { tasks, flat }
 }
@@ -122,21 +125,26 @@ fn walking(group: &'static str, kind: &str, periods: &[u64]) -> Case {
     }
 }
 
-fn windows(kind: &str, periods: &[u64], k: u64) -> Case {
-    let chain = chain_of(periods);
-    let n = periods.len();
-    let jobs = hyperperiod(&chain) / periods[0];
-    // A bound in the middle of the spans of the first jobs, so that some miss and some do not.
+fn windows(kind: &str, chain: Chain, k: u64) -> Case {
+    let n = chain.tasks.len();
+    let jobs = hyperperiod(&chain) / chain.tasks[0].period;
+    // The longest of 1000 spans, all over the range, and what is longer still: few jobs miss, since the first window with k misses ends the call.
     let warm = warm_jobs(&chain.tasks)[0];
-    let spans = (warm + 1..warm + 1 + jobs.min(1000)).map(|job| chain.tasks[n - 1].write(forward(&chain.tasks, job)) - chain.tasks[0].read(job));
-    let (low, high) = spans.fold((u64::MAX, 0), |(low, high), span| (low.min(span), high.max(span)));
+    let looked = jobs.min(1000);
+    let spans = (0..looked).map(|i| warm + 1 + i * jobs / looked).map(|job| chain.tasks[n - 1].write(forward(&chain.tasks, job)) - chain.tasks[0].read(job));
+    let b = spans.max().unwrap() - 1;
     Case {
         group: "windows",
         name: format!("{}, {jobs} first jobs, k {k}", named(kind, &chain)),
         enumerating: jobs * (ticks_of_way(&chain) + k),
         work: jobs * n as u64,
-        call: Call::Windows { chain, b: (low + high) / 2, k },
+        call: Call::Windows { chain, b, k },
     }
+}
+
+/// The worst kind: one job misses, and it lies in the last windows alone, so that both looks go through all of them.
+fn late() -> Chain {
+    chain_with(vec![Task { period: 401, duration: 401, phase: 0 }, Task { period: 503, duration: 503, phase: 400 }])
 }
 
 /// A schedule of two chains without a common task.
@@ -206,10 +214,11 @@ pub fn all() -> Vec<Case> {
         cases.push(walking(group, "published", &published));
         cases.extend([0, 4, 8, 9].iter().map(|&i| walking(group, "co-prime", coprime[i])));
     }
-    cases.extend([1, 10, 100].iter().map(|&k| windows("published", &published, k)));
-    cases.push(windows("harmonic", &doubling(250, 12), 10));
-    cases.extend([0, 4, 6, 3, 7, 9].iter().map(|&i| windows("co-prime", coprime[i], 10)));
-    cases.push(windows("co-prime", coprime[3], 100));
+    cases.extend([1, 10, 100].iter().map(|&k| windows("late", late(), k)));
+    cases.extend([1, 10, 100].iter().map(|&k| windows("published", chain_of(&published), k)));
+    cases.push(windows("harmonic", chain_of(&doubling(250, 12)), 10));
+    cases.extend([0, 4, 6, 3, 7, 9].iter().map(|&i| windows("co-prime", chain_of(coprime[i]), 10)));
+    cases.push(windows("co-prime", chain_of(coprime[3]), 100));
     cases.push(bookings("harmonic", [&[250], &[500]]));
     cases.push(bookings("harmonic", [&doubling(250, 4), &doubling(4000, 4)]));
     cases.push(bookings("harmonic", [&doubling(250, 12), &doubling(250, 12)]));

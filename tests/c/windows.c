@@ -1,5 +1,6 @@
 /*
- * Windows of jobs through the header, held to document 01's survey examples and refusals. tests/c/run builds and runs it.
+ * Windows of jobs through the header, held to document 01's survey examples and refusals and to order 2's own example in document 02.
+ * tests/c/run builds and runs it.
  */
 #include "meshorchard.h"
 
@@ -15,6 +16,12 @@ static const uint64_t chain_a[9] = { 4, 4, 0, 6, 6, 0, 0, 9, 9 };
  * job does; job 8 takes 16. */
 static const uint64_t chain_d[6] = { 10, 2, 0, 10, 1, 95 };
 
+/* W1 is 2 and there are 28 first jobs. */
+static const uint64_t chain_x[9] = { 3, 2, 1, 7, 5, 2, 4, 4, 0 };
+
+/* 503 first jobs, and one of their jobs misses 1405. */
+static const uint64_t chain_late[6] = { 401, 401, 0, 503, 503, 400 };
+
 static uint64_t misses, first;
 
 static uint64_t windows(const uint64_t *tasks, size_t length, size_t places, uint64_t b, uint64_t k)
@@ -23,34 +30,25 @@ static uint64_t windows(const uint64_t *tasks, size_t length, size_t places, uin
     return mo_windows(tasks, length, places, b, k, &misses, &first);
 }
 
-/* One window of chain A, whose only first job with that many misses is known. */
-static void one_window(const char *what, uint64_t b, uint64_t k, uint64_t most, uint64_t job)
+/* The largest number of misses and the earliest first job that has it. */
+static void check_window(const char *what, const uint64_t *tasks, size_t length, size_t places, uint64_t b, uint64_t k, uint64_t most, uint64_t job)
 {
-    expect(what, windows(chain_a, 9, 2, b, k), 0);
+    expect(what, windows(tasks, length, places, b, k), 0);
     expect("  misses", misses, most);
     expect("  first job", first, job);
 }
 
-/* One window of chain A, in which every first job from 1 to 3 is right. */
-static void any_window(const char *what, uint64_t b, uint64_t k, uint64_t most)
-{
-    expect(what, windows(chain_a, 9, 2, b, k), 0);
-    expect("  misses", misses, most);
-    expect("  first job from 1 to 3", first >= 1 && first <= 3, 1);
-}
-
 static void check_windows(void)
 {
-    one_window("A8, B 11, k 2, crossing into the next hyperperiod", 11, 2, 2, 3);
-    any_window("A8, B 14, k 3", 14, 3, 0);
-    any_window("every job misses", 0, 100, 100);
-    any_window("the largest bound", UINT64_MAX, 1, 0);
-    expect("D, B 6, k 2", windows(chain_d, 6, 2, 6, 2), 0);
-    expect("  misses", misses, 0);
-    expect("  first job", first, 10);
-    expect("D, B 5, k 2", windows(chain_d, 6, 2, 5, 2), 0);
-    expect("  misses", misses, 2);
-    expect("  first job", first, 10);
+    check_window("A8, B 11, k 2, crossing into the next hyperperiod", chain_a, 9, 2, 11, 2, 2, 3);
+    check_window("A8, B 14, k 3: jobs 1 to 3 have no miss", chain_a, 9, 2, 14, 3, 0, 1);
+    check_window("order 2, B 11, k 3: jobs 1 to 3 have as many", chain_a, 9, 2, 11, 3, 2, 1);
+    check_window("every job misses", chain_a, 9, 2, 0, 100, 100, 1);
+    check_window("the largest bound", chain_a, 9, 2, UINT64_MAX, 1, 0, 1);
+    check_window("D, B 6, k 2", chain_d, 6, 2, 6, 2, 0, 10);
+    check_window("D, B 5, k 2", chain_d, 6, 2, 5, 2, 2, 10);
+    check_window("X, B 14, k 3: jobs 3, 12, 19 and 20 have as many", chain_x, 9, 3, 14, 3, 3, 3);
+    check_window("the one miss lies in the last windows", chain_late, 6, 2, 1405, 10, 1, 494);
 }
 
 static void check_refused(const char *what, uint64_t code, uint64_t wanted)

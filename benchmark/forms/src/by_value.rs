@@ -2,6 +2,7 @@
 //! rustc would leave the copies out, since no function changes its chain. `received` makes it copy, at the calls where the crates copied while they had this form.
 use plain::maker::{Figures, Made};
 use plain::task::Task;
+use plain::windows::most_of;
 use plain::{Refusal, HYPERPERIOD_LIMIT, UPPER_TICK};
 use std::hint::black_box;
 
@@ -246,36 +247,11 @@ fn missed(c: Chain, b: u64, j: u64) -> u64 {
     (b < end - start) as u64
 }
 
-fn slide(c: Chain, b: u64, k: u64, from: u64, last: u64) -> (u64, u64) {
-    let n = k as usize;
-    let mut flags = [0u64; 100];
-    let mut count = 0;
-    for i in 0..n {
-        flags[i] = missed(c, b, from + i as u64);
-        count += flags[i];
-    }
-    let mut best = (count, from);
-    let mut s = from;
-    let mut i = 0;
-    while s < last {
-        let new = missed(c, b, s + k);
-        let old = flags[i];
-        flags[i] = new;
-        count = count + new - old;
-        s += 1;
-        i = if i + 1 < n { i + 1 } else { 0 };
-        if best.0 < count {
-            best = (count, s);
-        }
-    }
-    best
-}
-
 pub fn most_misses(c: Chain, b: u64, k: u64) -> Result<(u64, u64), Refusal> {
     let h = check(c)?;
     if k < 1 || 100 < k {
         return Err(refusal(15, 0));
     }
     let w = warm_jobs(c)[0];
-    Ok(slide(c, b, k, w + 1, w + h / c.tasks[0].period))
+    Ok(most_of(|j| missed(c, b, j), k, w + 1, w + h / c.tasks[0].period))
 }

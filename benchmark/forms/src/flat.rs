@@ -1,6 +1,7 @@
 //! The chain as the flat list T, D, F, T, D, F, .., lent from function to function, which are those of the crates.
 use plain::maker::{Figures, Made};
 use plain::task::Task;
+use plain::windows::most_of;
 use plain::{Refusal, HYPERPERIOD_LIMIT, UPPER_TICK};
 
 fn refusal(number: u64, place: usize) -> Refusal {
@@ -174,24 +175,5 @@ pub fn most_misses(list: &[u64], places: usize, b: u64, k: u64) -> Result<(u64, 
         return Err(refusal(15, 0));
     }
     let w = warm_jobs(list, places)[0];
-    let (from, last) = (w + 1, w + h / task(list, 0).period);
-    let n = k as usize;
-    let mut flags = [0u64; 100];
-    let mut count = 0;
-    for i in 0..n {
-        flags[i] = missed(list, places, b, from + i as u64);
-        count += flags[i];
-    }
-    let mut best = (count, from);
-    let mut i = 0;
-    for s in from..last {
-        let new = missed(list, places, b, s + k);
-        count = count + new - flags[i];
-        flags[i] = new;
-        i = if i + 1 < n { i + 1 } else { 0 };
-        if best.0 < count {
-            best = (count, s + 1);
-        }
-    }
-    Ok(best)
+    Ok(most_of(|j| missed(list, places, b, j), k, w + 1, w + h / task(list, 0).period))
 }

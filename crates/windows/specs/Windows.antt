@@ -1,5 +1,5 @@
--- Document 01, "Windows of jobs": the jobs that miss, the largest number of misses in k successive jobs, the earliest job from which
--- there are as many (document 02, order 2), and what the call answers.
+-- Document 01, "Windows of jobs", and order 2 of document 02: the jobs that miss, the largest number of misses in k successive jobs, the earliest job from which
+-- there are as many, and what the call answers.
 use Prim.Native.Nat.{ℕ, zero, suc, _+_, _-_, _/_}
 use mathlib.Core.Bool.{Bool, true, false, cond, _&&_}
 use mathlib.Core.List.{List}
@@ -50,7 +50,8 @@ windowOf l B k s = missesIn (misses l B) s k
 unfoldable pub mostMisses : List Task → ℕ → ℕ → ℕ
 mostMisses l B k = largest (windowOf l B k) (warmAt l 0 + 1) (starts l)
 
--- The earliest first job of a window with that many. There is one in the range: `earliest` in EveryWindow.
+-- Order 2 of document 02: "the earliest starting job whose window holds that many misses, within the range of jobs as before".
+-- That there is one, and that every earlier job after W1 has fewer, is `earliest` in EveryWindow.
 unfoldable pub earliestJob : List Task → ℕ → ℕ → ℕ
 earliestJob l B k = leastFrom (λ s. eqb (windowOf l B k s) (mostMisses l B k)) (warmAt l 0 + 1) (starts l)
 
@@ -59,7 +60,7 @@ abbrev pub afterLimits : Verdict → ℕ → Verdict
 afterLimits (verdict.Refused r) k = verdict.Refused r
 afterLimits (verdict.Accepted h) k = cond (leb 1 k && leb k 100) (verdict.Accepted h) (verdict.Refused (refusal 15 0))
 
--- What the call answers after the chain's own checks.
+-- What the call answers, by what its checks say: 8, 5, 7 and 15, or the two numbers.
 unfoldable pub windowsAfter : List Task → ℕ → ℕ → Verdict → Windows
 windowsAfter l B k (verdict.Refused r) = Refused r
 windowsAfter l B k (verdict.Accepted h) = Most (mostMisses l B k) (record { 0 = earliestJob l B k })

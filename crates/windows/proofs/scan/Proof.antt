@@ -12,13 +12,13 @@ use Rattle.windows.proofs.scan.Statement.{statement}
 use Rattle.windows.proofs.scan.Tie as tie
 
 -- the jobs from s up to before j are counted, and after a turn they are below the goal
-abbrev Inv-loop : tie.InvT-loop
-Inv-loop tasks b k goal last n flags₀ count₀ most i₀ s j₀ flags count i j =
+abbrev Inv-jobs : tie.InvT-jobs
+Inv-jobs tasks b k goal last n flags₀ count₀ most i₀ s j₀ flags count i j =
     (s .0 ≤ j .0) × (j .0 ≤ s .0 + k) × (i < k) × Ring (misses (tasksIn tasks) b) k (s .0) (j .0) i flags × (count ≡ missesIn (misses (tasksIn tasks) b) (s .0) (j .0 - s .0))
     × (j₀ .0 < j .0 → count < goal)
 
-abbrev μ-loop : tie.MeasureT-loop
-μ-loop tasks b k goal last n flags₀ count₀ most i₀ s j₀ flags count i j = last .0 + k + 1 - j .0
+abbrev μ-jobs : tie.MeasureT-jobs
+μ-jobs tasks b k goal last n flags₀ count₀ most i₀ s j₀ flags count i j = last .0 + k + 1 - j .0
 
 -- the same, the window of s not being whole; and the windows before s are below the goal
 abbrev Inv-starts : tie.InvT-starts
@@ -30,128 +30,128 @@ Inv-starts tasks b k goal last n flags₀ count₀ most₀ i₀ s₀ j₀ flags 
 abbrev μ-starts : tie.MeasureT-starts
 μ-starts tasks b k goal last n flags₀ count₀ most₀ i₀ s₀ j₀ flags count most i s j = last .0 + 1 - s .0
 
-starts-holds : tie.Need-starts-holds Inv-loop μ-loop Inv-starts μ-starts
+starts-holds : tie.Need-starts-holds Inv-jobs μ-jobs Inv-starts μ-starts
 starts-holds c =
     let p = c .before .pre in
     (omega arith, omega (arith, p .3), omega arith, omega (arith, p .1), omega (arith, p .1), ring-none _ _ _ _ refl, none-yet _ _, λ x a b. absurd (omega arith), none-seen _ _)
 
-loop-holds : tie.Need-loop-holds Inv-loop μ-loop Inv-starts μ-starts
-loop-holds c = let o = c .before .before .before .starts .inv in (o .2, omega (arith, o .3), o .4, o .5, o .6, λ h. absurd (omega arith))
+jobs-holds : tie.Need-jobs-holds Inv-jobs μ-jobs Inv-starts μ-starts
+jobs-holds c = let o = c .before .before .before .starts .inv in (o .2, omega (arith, o .3), o .4, o .5, o .6, λ h. absurd (omega arith))
 
-add-if2 : tie.Need-add-if2 Inv-loop μ-loop Inv-starts μ-starts
+add-if2 : tie.Need-add-if2 Inv-jobs μ-jobs Inv-starts μ-starts
 add-if2 c =
     let o = c .before .before .before .before .before in
     let s = o .before .before in
     omega (arith, number-small _ (s .pre .0) (o .starts .s .0 + s .args .k) _ (omega arith) (s .pre .4))
 
-missed-requires : tie.Need-missed-requires Inv-loop μ-loop Inv-starts μ-starts
+missed-requires : tie.Need-missed-requires Inv-jobs μ-jobs Inv-starts μ-starts
 missed-requires c κs =
     let s = c .before .before .before .before .before .before .before .before .before in
     (s .pre .0, write-small _ (s .pre .0) _ _ (omega arith) (s .pre .4))
 
-mul-flags : tie.Need-mul-flags Inv-loop μ-loop Inv-starts μ-starts
+mul-flags : tie.Need-mul-flags Inv-jobs μ-jobs Inv-starts μ-starts
 mul-flags c = omega arith
 
-array-write-flags : tie.Need-array-write-flags Inv-loop μ-loop Inv-starts μ-starts
+array-write-flags : tie.Need-array-write-flags Inv-jobs μ-jobs Inv-starts μ-starts
 array-write-flags c = omega arith
 
-next-in-requires : tie.Need-next-in-requires Inv-loop μ-loop Inv-starts μ-starts
+next-in-requires : tie.Need-next-in-requires Inv-jobs μ-jobs Inv-starts μ-starts
 next-in-requires c κs = omega arith
 
-add-count : tie.Need-add-count Inv-loop μ-loop Inv-starts μ-starts
+add-count : tie.Need-add-count Inv-jobs μ-jobs Inv-starts μ-starts
 add-count c =
     let l = c .before .before .before .before .before in
     let s = l .before .before .before .before .before .before in
-    omega (arith, flag-small _ _ _ _ (c .before .missed .ensures), l .loop .inv .4, at-most (misses (tasksIn (s .args .tasks .now)) (s .args .b)) (l .loop .j .0 - l .before .before .before .before .starts .s .0) (l .before .before .before .before .starts .s .0), s .pre .2)
+    omega (arith, flag-small _ _ _ _ (c .before .missed .ensures), l .jobs .inv .4, at-most (misses (tasksIn (s .args .tasks .now)) (s .args .b)) (l .jobs .j .0 - l .before .before .before .before .starts .s .0) (l .before .before .before .before .starts .s .0), s .pre .2)
 
-add-t16 : tie.Need-add-t16 Inv-loop μ-loop Inv-starts μ-starts
+add-t16 : tie.Need-add-t16 Inv-jobs μ-jobs Inv-starts μ-starts
 add-t16 c =
     let l = c .before .before .before .before .before .before in
     let s = l .before .before .before .before .before .before in
-    omega (arith, number-small _ (s .pre .0) (l .loop .j .0) _ (omega arith) (s .pre .4))
+    omega (arith, number-small _ (s .pre .0) (l .jobs .j .0) _ (omega arith) (s .pre .4))
 
-loop-less : tie.Need-loop-less Inv-loop μ-loop Inv-starts μ-starts
-loop-less c = omega arith
+jobs-less : tie.Need-jobs-less Inv-jobs μ-jobs Inv-starts μ-starts
+jobs-less c = omega arith
 
-loop-again : tie.Need-loop-again Inv-loop μ-loop Inv-starts μ-starts
-loop-again c =
+jobs-again : tie.Need-jobs-again Inv-jobs μ-jobs Inv-starts μ-starts
+jobs-again c =
     let l = c .before .before .before .before .before .before .before in
     let o = l .before .before .before .before in
     let s = o .before .before in
     let new = c .before .before .before .missed .ensures in (
       omega arith,
       omega arith,
-      rw (c .before .before .next-in .ensures) (next-inside (l .loop .i) (s .args .k) (l .loop .inv .2)),
-      rw (c .before .before .next-in .ensures) (ring-enters _ _ _ _ _ _ (l .loop .inv .3) (l .loop .inv .2) (s .pre .2) _ new),
-      omega (arith, new, l .loop .inv .4, enters (misses (tasksIn (s .args .tasks .now)) (s .args .b)) (o .starts .s .0) (l .loop .j .0) (l .loop .inv .0)),
+      rw (c .before .before .next-in .ensures) (next-inside (l .jobs .i) (s .args .k) (l .jobs .inv .2)),
+      rw (c .before .before .next-in .ensures) (ring-enters _ _ _ _ _ _ (l .jobs .inv .3) (l .jobs .inv .2) (s .pre .2) _ new),
+      omega (arith, new, l .jobs .inv .4, enters (misses (tasksIn (s .args .tasks .now)) (s .args .b)) (o .starts .s .0) (l .jobs .j .0) (l .jobs .inv .0)),
       λ h. c .if3 .left,
     )
 
-larger-requires : tie.Need-larger-requires Inv-loop μ-loop Inv-starts μ-starts
+larger-requires : tie.Need-larger-requires Inv-jobs μ-jobs Inv-starts μ-starts
 larger-requires c κs = tt
 
-mul-count : tie.Need-mul-count Inv-loop μ-loop Inv-starts μ-starts
+mul-count : tie.Need-mul-count Inv-jobs μ-jobs Inv-starts μ-starts
 mul-count c = omega arith
 
-array-read-count : tie.Need-array-read-count Inv-loop μ-loop Inv-starts μ-starts
+array-read-count : tie.Need-array-read-count Inv-jobs μ-jobs Inv-starts μ-starts
 array-read-count c = omega arith
 
-sub-count : tie.Need-sub-count Inv-loop μ-loop Inv-starts μ-starts
+sub-count : tie.Need-sub-count Inv-jobs μ-jobs Inv-starts μ-starts
 sub-count c =
     let l = c .before .before .before .before in
     let o = l .before .before .before .before in
     let s = o .before .before in
-    let whole : l .loop .j .0 ≡ o .starts .s .0 + s .args .k = omega arith in
-    omega (arith, l .loop .inv .4, ring-first _ _ _ _ _ _ (l .loop .inv .3) (l .loop .inv .2) whole, leaves (misses (tasksIn (s .args .tasks .now)) (s .args .b)) (o .starts .s .0) (l .loop .j .0) (omega (arith, s .pre .1)))
+    let whole : l .jobs .j .0 ≡ o .starts .s .0 + s .args .k = omega arith in
+    omega (arith, l .jobs .inv .4, ring-first _ _ _ _ _ _ (l .jobs .inv .3) (l .jobs .inv .2) whole, leaves (misses (tasksIn (s .args .tasks .now)) (s .args .b)) (o .starts .s .0) (l .jobs .j .0) (omega (arith, s .pre .1)))
 
-add-t24 : tie.Need-add-t24 Inv-loop μ-loop Inv-starts μ-starts
+add-t24 : tie.Need-add-t24 Inv-jobs μ-jobs Inv-starts μ-starts
 add-t24 c =
     let o = c .before .before .before .before .before .before .before .before .before in
     let s = o .before .before in
     omega (arith, number-small _ (s .pre .0) (o .starts .s .0 + 1) _ (omega (arith, s .pre .1)) (s .pre .4))
 
-starts-less : tie.Need-starts-less Inv-loop μ-loop Inv-starts μ-starts
+starts-less : tie.Need-starts-less Inv-jobs μ-jobs Inv-starts μ-starts
 starts-less c = omega arith
 
-starts-again : tie.Need-starts-again Inv-loop μ-loop Inv-starts μ-starts
+starts-again : tie.Need-starts-again Inv-jobs μ-jobs Inv-starts μ-starts
 starts-again c =
     let l = c .before .before .before .before .before in
     let o = l .before .before .before .before in
     let s = o .before .before in
     let miss = misses (tasksIn (s .args .tasks .now)) (s .args .b) in
     let f = windowOf (tasksIn (s .args .tasks .now)) (s .args .b) (s .args .k) in
-    let whole : l .loop .j .0 ≡ o .starts .s .0 + s .args .k = omega arith in
-    let all : l .loop .j .0 - o .starts .s .0 ≡ s .args .k = omega arith in
-    let has : l .loop .count ≡ f (o .starts .s .0) = rw all at (l .loop .inv .4) in (
+    let whole : l .jobs .j .0 ≡ o .starts .s .0 + s .args .k = omega arith in
+    let all : l .jobs .j .0 - o .starts .s .0 ≡ s .args .k = omega arith in
+    let has : l .jobs .count ≡ f (o .starts .s .0) = rw all at (l .jobs .inv .4) in (
       omega (arith, o .starts .inv .0),
       omega arith,
       omega (arith, s .pre .1),
       omega (arith, s .pre .1),
-      l .loop .inv .2,
-      ring-leaves _ _ _ _ _ _ (l .loop .inv .3),
-      omega (arith, l .loop .inv .4, ring-first _ _ _ _ _ _ (l .loop .inv .3) (l .loop .inv .2) whole, leaves miss (o .starts .s .0) (l .loop .j .0) (omega (arith, s .pre .1))),
-      before-more f _ _ (o .starts .inv .0) _ has _ (o .starts .inv .7) (l .loop .inv .5 (omega (arith, o .starts .inv .3))),
+      l .jobs .inv .2,
+      ring-leaves _ _ _ _ _ _ (l .jobs .inv .3),
+      omega (arith, l .jobs .inv .4, ring-first _ _ _ _ _ _ (l .jobs .inv .3) (l .jobs .inv .2) whole, leaves miss (o .starts .s .0) (l .jobs .j .0) (omega (arith, s .pre .1))),
+      before-more f _ _ (o .starts .inv .0) _ has _ (o .starts .inv .7) (l .jobs .inv .5 (omega (arith, o .starts .inv .3))),
       c .before .larger .ensures ∙ most-more f _ _ (o .starts .inv .0) _ has _ (o .starts .inv .8),
     )
 
-returns : tie.Need-returns Inv-loop μ-loop Inv-starts μ-starts
+returns : tie.Need-returns Inv-jobs μ-jobs Inv-starts μ-starts
 returns c =
     let o = c .before .before .before .starts .inv in
     record { low = o .0; high = o .1; before = o .7; reached = λ h. absurd (omega arith); most-is = o .8 }
 
-returns-2 : tie.Need-returns-2 Inv-loop μ-loop Inv-starts μ-starts
+returns-2 : tie.Need-returns-2 Inv-jobs μ-jobs Inv-starts μ-starts
 returns-2 c =
     let l = c .before .before .before .before .before .before .before in
     let o = l .before .before .before .before in
     let s = o .before .before in
     let miss = misses (tasksIn (s .args .tasks .now)) (s .args .b) in
-    let count = enters miss (o .starts .s .0) (l .loop .j .0) (l .loop .inv .0) in
-    let more = grows miss (o .starts .s .0) (l .loop .j .0 + 1 - o .starts .s .0) (s .args .k) (omega arith) in
+    let count = enters miss (o .starts .s .0) (l .jobs .j .0) (l .jobs .inv .0) in
+    let more = grows miss (o .starts .s .0) (l .jobs .j .0 + 1 - o .starts .s .0) (s .args .k) (omega arith) in
     record {
       low = o .starts .inv .0;
       high = o .starts .inv .1;
       before = o .starts .inv .7;
-      reached = λ h. omega (arith, c .if3 .taken, c .before .before .before .missed .ensures, l .loop .inv .4, count, more);
+      reached = λ h. omega (arith, c .if3 .taken, c .before .before .before .missed .ensures, l .jobs .inv .4, count, more);
       most-is = o .starts .inv .8;
     }
 
@@ -159,12 +159,12 @@ pub scan-spec : {M : Type 1} → statement M
 scan-spec =
     tie.close
     (tie.spec
-    Inv-loop
-    μ-loop
+    Inv-jobs
+    μ-jobs
     Inv-starts
     μ-starts
     starts-holds
-    loop-holds
+    jobs-holds
     add-if2
     missed-requires
     mul-flags
@@ -172,8 +172,8 @@ scan-spec =
     next-in-requires
     add-count
     add-t16
-    loop-less
-    loop-again
+    jobs-less
+    jobs-again
     larger-requires
     mul-count
     array-read-count
