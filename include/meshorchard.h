@@ -31,11 +31,11 @@
  * places; the calls on files one over the bytes.
  * mo_make_table walks h / T partitions, T being the period at the place of the cut, and a partition costs each place once: with h 60,000,000
  * and twelve places 0.04 ms where the longest period, 78,125, is cut at, and 2.8 s at a place of period 1. Cut at the longest period no
- * chain has more than 3,063,060 partitions. mo_windows walks h / T chains, T being the first place's period: 0.04 ms to 2.7 s for these
- * chains. mo_report makes one table for each chain, cut at the longest period: at most 0.2 s a chain. mo_bookings goes once through the
- * common hyperperiod, from one change of a booking to the next, and a change costs each place of its chain twice: 0.5 s for one place of
- * period 1 beside 768 and 78,125, and at the worst, twelve places of period 1 beside 16, 9, 5, 7, 11, 23 and 47, 10 s. (One run on a
- * server's processor; an instrument's takes longer.) Nothing else that is lent makes a call take long.
+ * chain has more than 3,063,060 partitions. mo_windows makes at most 2 * (h / T + k - 1) walks, T being the first place's period: 0.06 ms
+ * to 4.7 s for these chains. mo_report makes one table for each chain, cut at the longest period: at most 0.2 s a chain. mo_bookings goes
+ * once through the common hyperperiod, from one change of a booking to the next, and a change costs each place of its chain twice: 0.5 s
+ * for one place of period 1 beside 768 and 78,125, and at the worst, twelve places of period 1 beside 16, 9, 5, 7, 11, 23 and 47, 10 s.
+ * (One run on a server's processor; an instrument's takes longer.) Nothing else that is lent makes a call take long.
  *
  * Stack. What each call needs below its caller's frame, in bytes, is MO_STACK_ below: measured on x86-64 and rounded up, not proved. The C
  * library's memcpy and memset are in it, but not the dynamic linker, which a program that binds them at their first call runs there. To
@@ -223,9 +223,9 @@ uint64_t mo_make_table(const uint64_t *tasks, size_t tasks_length, size_t places
  * Windows of jobs: a job of the first place misses when more than b ticks pass from its read to the write at which its way forward ends.
  * misses becomes the largest number of misses in k successive jobs after the warm-up job W1, over all time, and first the earliest job,
  * counted from 0, with which such a window begins: every window of k jobs that begins after W1 and before first has fewer misses. first is
- * one of the jobs W1 + 1 to W1 + h / T, h being the hyperperiod and T the first place's period. b may be any number. The call looks at h / T
- * first jobs at most twice, once for the largest number and once for the earliest job that has it, and each look costs one walk, whatever
- * k is. The first window with k misses ends the call.
+ * one of the jobs W1 + 1 to W1 + h / T, h being the hyperperiod and T the first place's period. b may be any number. The call goes through
+ * these jobs at most twice, once for the largest number and once for the earliest job that has it, each time with at most h / T + k - 1
+ * walks. The first window with k misses ends it.
  *
  * Refuses, after the chain's own refusals:
  *   MO_WINDOW_OUTSIDE_LIMITS   k is not 1 to 100.

@@ -128,7 +128,7 @@ fn walking(group: &'static str, kind: &str, periods: &[u64]) -> Case {
 fn windows(kind: &str, chain: Chain, k: u64) -> Case {
     let n = chain.tasks.len();
     let jobs = hyperperiod(&chain) / chain.tasks[0].period;
-    // The longest of 1000 spans, all over the range, and what is longer still: few jobs miss, since the first window with k misses ends the call.
+    // The longest of 1000 spans from all over the range misses, and what is longer still. So few jobs miss; else the call would end early, at a window with k misses.
     let warm = warm_jobs(&chain.tasks)[0];
     let looked = jobs.min(1000);
     let spans = (0..looked).map(|i| warm + 1 + i * jobs / looked).map(|job| chain.tasks[n - 1].write(forward(&chain.tasks, job)) - chain.tasks[0].read(job));
@@ -142,7 +142,7 @@ fn windows(kind: &str, chain: Chain, k: u64) -> Case {
     }
 }
 
-/// The worst kind: one job misses, and it lies in the last windows alone, so that both looks go through all of them.
+/// The worst kind: one job misses, the last but one of the range, so that for k above 1 both looks walk nearly all jobs.
 fn late() -> Chain {
     chain_with(vec![Task { period: 401, duration: 401, phase: 0 }, Task { period: 503, duration: 503, phase: 400 }])
 }

@@ -19,7 +19,7 @@ static const uint64_t chain_d[6] = { 10, 2, 0, 10, 1, 95 };
 /* W1 is 2 and there are 28 first jobs. */
 static const uint64_t chain_x[9] = { 3, 2, 1, 7, 5, 2, 4, 4, 0 };
 
-/* 503 first jobs, and one of their jobs misses 1405. */
+/* W1 is 1 and there are 503 first jobs. Of all jobs in their windows only 503 misses 1405. */
 static const uint64_t chain_late[6] = { 401, 401, 0, 503, 503, 400 };
 
 static uint64_t misses, first;
@@ -48,7 +48,7 @@ static void check_windows(void)
     check_window("D, B 6, k 2", chain_d, 6, 2, 6, 2, 0, 10);
     check_window("D, B 5, k 2", chain_d, 6, 2, 5, 2, 2, 10);
     check_window("X, B 14, k 3: jobs 3, 12, 19 and 20 have as many", chain_x, 9, 3, 14, 3, 3, 3);
-    check_window("the one miss lies in the last windows", chain_late, 6, 2, 1405, 10, 1, 494);
+    check_window("the one miss comes late", chain_late, 6, 2, 1405, 10, 1, 494);
 }
 
 static void check_refused(const char *what, uint64_t code, uint64_t wanted)

@@ -1,3 +1,4 @@
 pub mod Codes
 pub mod TablesAndWalks
 pub mod ChosenChain
+pub mod BadStretches

@@ -28,7 +28,7 @@ module _ (w q : Windows) (right : w ≡ q) where
   pub gives-refusal : (r : Refusal) → w ≡ Refused r → (code : ℕ) → code ≡ codeOf r → (code ∷ 0 ∷ 0 ∷ []) ≡ windowNumbers q
   gives-refusal r e code f = ap (λ (x : ℕ). x ∷ 0 ∷ 0 ∷ []) f ∙ ap windowNumbers (sym e ∙ right)
 
-after-small : (v : Verdict) → SmallVerdict v → (k : ℕ) → SmallVerdict (afterLimits v k)
+pub after-small : (v : Verdict) → SmallVerdict v → (k : ℕ) → SmallVerdict (afterLimits v k)
 after-small (verdict.Refused r) s k = s
 after-small (verdict.Accepted h) s k = go (leb 1 k && leb k 100)
   where

@@ -1,11 +1,9 @@
 // Windows of jobs for C and for hosts: plain numbers and lists of numbers. include/meshorchard.h declares the call and says how to use it.
 use windows::Windows;
-ghost use mathlib.Core.Path.{_≡_};
-ghost use Prim.Native.Nat.{_+_, _*_, _≤_, _<_};
 ghost use Rattle.capi_chain.specs.FlatChain.{chainFrom};
 ghost use Rattle.capi_windows.specs.Calls.{GivesWindows};
 
-// The largest number of misses of b in k successive jobs of the first place, and the earliest job from which k jobs have as many.
+// The largest number of misses of b in k successive jobs of the first place, and the earliest starting job whose window has as many.
 #[no_mangle]
 pub extern "C" fn mo_windows(
     tasks: &[u64],

@@ -7,15 +7,14 @@ use native.Mathlib.Decide.{decLt}
 use mathlib.Core.Path.{_≡_, _∙_}
 use mathlib.Core.List.{List}
 use lib.ListN.{length}
-use borrow.Author.Tests.{eq-eqb}
+use Rattle.chain.specs.declared.Chain.{Chain}
 use Rattle.chain.specs.Chains.{tasksOf}
 use Rattle.schedule.specs.declared.Schedule.{Schedule}
 use Rattle.schedule.specs.Schedules.{chainAt}
 use Rattle.schedule.specs.Arrays.{Arrays}
-use Rattle.schedule_checks.specs.Checks.{choiceOf, afterChoice}
-use Rattle.schedule_checks.specs.SoundChain.{sound-twelve}
-use Rattle.schedule_checks.specs.ChosenChain.{choice-sound}
-use Rattle.timing.specs.declared.Span.the-variants.{Ticks}
+use Rattle.schedule_checks.specs.Checks.{choiceOf}
+use Rattle.schedule_checks.specs.ChosenChain.{chosen-twelve, choice-answers}
+use Rattle.timing.specs.declared.Span.the-variants.{Ticks, Refused}
 use Rattle.timing.specs.WarmUp.{warmTick}
 use Rattle.timing.specs.Delay.{delayAt, firstAged, ageAt}
 use Rattle.timing.specs.Answers.{upperTick, delayOf, ageOf}
@@ -50,17 +49,12 @@ pub record AgreedFrom (s : Schedule) (n : ℕ) (starts latencies : List ℕ) (r 
 module _ (s : Schedule) (a : Arrays s) (n : ℕ) where
   -- of a chain that was chosen
   module _ (chosen : choiceOf s n .number ≡ 0) where
-    chosen-twelve : length (chainAt s n .tasks) ≡ 12
-    chosen-twelve = let k = choice-sound s n chosen in sound-twelve s a (k .0) n (k .1) (k .2)
-
     -- the analyses from the schedule are those of the chain
     pub delay-chosen : (t : ℕ) → delayFrom s n t ≡ delayOf (chainAt s n) t
-    unfolding afterChoice
-    delay-chosen t = rw (eq-eqb (choiceOf s n .number) 0 chosen)
+    delay-chosen t = choice-answers s n Refused (λ (c : Chain). delayOf c t) chosen
 
     pub age-chosen : (z : ℕ) → ageFrom s n z ≡ ageOf (chainAt s n) z
-    unfolding afterChoice
-    age-chosen z = rw (eq-eqb (choiceOf s n .number) 0 chosen)
+    age-chosen z = choice-answers s n Refused (λ (c : Chain). ageOf c z) chosen
 
     same-from : (starts latencies : List ℕ) (f : Figures) → SameGreatest (chainAt s n) starts latencies f → SameGreatestFrom s n starts latencies f
     same-from starts latencies f k = record {
@@ -76,7 +70,7 @@ module _ (s : Schedule) (a : Arrays s) (n : ℕ) where
     pub every-chain-from : (h p : ℕ) (starts latencies starts′ latencies′ : List ℕ) (r : Made) → Asked (chainAt s n) p h (length starts) (length latencies)
         → anchorCount (chainAt s n) p h ≤ length starts → MakesFrom s n p starts latencies starts′ latencies′ r → AgreedFrom s n starts′ latencies′ r (figuresOf (chainAt s n) p h)
     every-chain-from h p starts latencies starts′ latencies′ r asked enough makes =
-        let k = every-chain (chainAt s n) chosen-twelve h p starts latencies starts′ latencies′ r asked enough (makes .answered chosen) in
+        let k = every-chain (chainAt s n) (chosen-twelve s n a chosen) h p starts latencies starts′ latencies′ r asked enough (makes .answered chosen) in
         record {
           completed = k .completed;
           from = k .from;
@@ -90,7 +84,7 @@ module _ (s : Schedule) (a : Arrays s) (n : ℕ) where
         → Asked (chainAt s n) q h (length x) (length y) → anchorCount (chainAt s n) q h ≤ length x → MakesFrom s n q x y x′ y′ t
         → SameAnchors starts′ latencies′ x′ y′ (figuresOf (chainAt s n) p h) (figuresOf (chainAt s n) q h)
     every-two-cuts-from h p q starts latencies starts′ latencies′ x y x′ y′ r t k e m l f o =
-        every-two-cuts (chainAt s n) chosen-twelve h p q starts latencies starts′ latencies′ x y x′ y′ r t k e (m .answered chosen) l f (o .answered chosen)
+        every-two-cuts (chainAt s n) (chosen-twelve s n a chosen) h p q starts latencies starts′ latencies′ x y x′ y′ r t k e (m .answered chosen) l f (o .answered chosen)
 
   -- of a table that was completed
   module _ (p : ℕ) (starts latencies starts′ latencies′ : List ℕ) (f : Figures) (makes : MakesFrom s n p starts latencies starts′ latencies′ (Whole f)) where
@@ -104,12 +98,12 @@ module _ (s : Schedule) (a : Arrays s) (n : ℕ) where
     made = makes .answered completed-chosen
 
     pub table-is-walk-from : (t : ℕ) → f .tick .0 ≤ t → t ≤ upperTick → SameTicks (delayFrom s n t) (reading starts′ latencies′ (f .anchors) (f .hyperperiod) t)
-    table-is-walk-from t low high = rw (delay-chosen completed-chosen t) (table-is-walk (chainAt s n) (chosen-twelve completed-chosen) p starts latencies starts′ latencies′ f made t low high)
+    table-is-walk-from t low high = rw (delay-chosen completed-chosen t) (table-is-walk (chainAt s n) (chosen-twelve s n a completed-chosen) p starts latencies starts′ latencies′ f made t low high)
 
     pub greatest-from : SameGreatestFrom s n starts′ latencies′ f
-    greatest-from = same-from completed-chosen starts′ latencies′ f (greatest-is-delay-and-age (chainAt s n) (chosen-twelve completed-chosen) p starts latencies starts′ latencies′ f made)
+    greatest-from = same-from completed-chosen starts′ latencies′ f (greatest-is-delay-and-age (chainAt s n) (chosen-twelve s n a completed-chosen) p starts latencies starts′ latencies′ f made)
 
   pub cuts-agree-from : (p q : ℕ) (starts latencies starts′ latencies′ : List ℕ) (f : Figures) → MakesFrom s n p starts latencies starts′ latencies′ (Whole f)
       → (x y x′ y′ : List ℕ) (g : Figures) → MakesFrom s n q x y x′ y′ (Whole g) → SameAnchors starts′ latencies′ x′ y′ f g
   cuts-agree-from p q starts latencies starts′ latencies′ f makes x y x′ y′ g other =
-      cuts-agree (chainAt s n) (chosen-twelve (completed-chosen p starts latencies starts′ latencies′ f makes)) p q starts latencies starts′ latencies′ f (made p starts latencies starts′ latencies′ f makes) x y x′ y′ g (made q x y x′ y′ g other)
+      cuts-agree (chainAt s n) (chosen-twelve s n a (completed-chosen p starts latencies starts′ latencies′ f makes)) p q starts latencies starts′ latencies′ f (made p starts latencies starts′ latencies′ f makes) x y x′ y′ g (made q x y x′ y′ g other)

@@ -1,3 +1,4 @@
 pub mod Answers
 pub mod ChainByChain
 pub mod Pairs
+pub mod BadStretches

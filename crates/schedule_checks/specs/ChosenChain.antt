@@ -1,18 +1,22 @@
 -- The two parts of a choice: its refusal, and its chain where there is none.
 use Prim.Native.Nat.{ℕ, _≤_}
 use native.Mathlib.Omega.{arith}
+use native.Mathlib.Decide.{decLt}
 use mathlib.Core.Path.{_≡_, refl, sym, ap, _∙_}
 use mathlib.Core.Bool.{Bool, true, false, cond}
 use lib.Dec.{eqb}
+use lib.ListN.{length}
 use borrow.Author.Tests.{eq-eqb, ne-eqb, eqb-true, eqb-false}
 use Rattle.refusal.specs.declared.Refusal.{Refusal}
 use Rattle.refusal.specs.Refusals.{refusal, none}
 use Rattle.chain.specs.declared.Chain.{Chain}
 use Rattle.schedule.specs.declared.Schedule.{Schedule}
 use Rattle.schedule.specs.Schedules.{chainAt}
+use Rattle.schedule.specs.Arrays.{Arrays}
 use Rattle.schedule_checks.specs.declared.Chosen.{Chosen}
 use Rattle.schedule_checks.specs.Checks.{countRight, faultOf, choiceOf, noneChosen, chosenOf, afterChoice}
 use Rattle.schedule_checks.specs.SoundSchedule.{SoundSchedule, sound, no-refusal, count-right, right-count}
+use Rattle.schedule_checks.specs.SoundChain.{sound-twelve}
 
 module _ (s : Schedule) (n : ℕ) where
   pub chosen-refusal : chosenOf s n .refusal ≡ choiceOf s n
@@ -45,6 +49,23 @@ module _ (s : Schedule) (n : ℕ) where
   pub choice-there : SoundSchedule s → 1 ≤ n → n ≤ s .chains → choiceOf s n ≡ none
   unfolding choiceOf
   choice-there k low high = rw (no-refusal s k, right-count n (s .chains) low high)
+
+  -- The chain that is chosen has room for twelve tasks.
+  pub chosen-twelve : Arrays s → choiceOf s n .number ≡ 0 → length (chainAt s n .tasks) ≡ 12
+  chosen-twelve a e = let k = choice-sound e in sound-twelve s a (k .0) n (k .1) (k .2)
+
+  -- Where a chain is chosen, an analysis answers of it,
+  pub choice-answers : {A : Type 0} (refused : Refusal → A) (answer : Chain → A) → choiceOf s n .number ≡ 0 → afterChoice s n refused answer ≡ answer (chainAt s n)
+  unfolding afterChoice
+  choice-answers refused answer e = rw (eq-eqb (choiceOf s n .number) 0 e)
+
+  -- and where it answers what is no refusal, a chain is chosen.
+  pub answer-chosen : {A : Type 0} (refused : Refusal → A) (answer : Chain → A) (a : A) → ((r : Refusal) → refused r ≡ a → ⊥) → afterChoice s n refused answer ≡ a → choiceOf s n .number ≡ 0
+  unfolding afterChoice
+  answer-chosen refused answer a other h = elim (decLt (choiceOf s n .number) 1) [
+    | yes k ↦ omega arith
+    | no k ↦ absurd (other (choiceOf s n) (rw (ne-eqb (choiceOf s n .number) 0 (λ z. omega arith)) at h))
+  ]
 
   -- Where the schedule is refused, nothing is chosen.
   pub fault-answers : {A : Type 0} (refused : Refusal → A) (answer : Chain → A) (r : Refusal) → r ≡ faultOf s → (r .number ≡ 0 → ⊥) → refused r ≡ afterChoice s n refused answer

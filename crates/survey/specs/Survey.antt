@@ -1,5 +1,6 @@
--- Document 01, "Survey examples": A1 to A8, B, C, D and E, and the example of order 2 of document 02, as one computed list with one conclusion. Every row is computed from the definitions that the
--- calls' contracts cite; a call's answer is turned into plain numbers: of a refusal its number and its place, of a success 0 and its values.
+-- Document 01, "Survey examples": A1 to A8, B, C, D and E, and the example of order 2 of document 02, as one computed list with one conclusion. Every row
+-- is computed from the definitions that the calls' contracts cite; a call's answer is turned into plain numbers: of a refusal its number and its place, of a
+-- success 0 and its values.
 use Prim.Native.Nat.{ℕ, _+_, _-_}
 use mathlib.Core.Path.{_≡_, refl}
 use mathlib.Core.List.{List, [], _∷_, _++_, map}
@@ -46,7 +47,7 @@ use Rattle.ranges.specs.Largest.{largest}
 use Rattle.windows.specs.declared.Windows.{Windows}
 use Rattle.windows.specs.declared.Windows.the-variants as window
 use Rattle.windows.specs.Windows.{spanOf, misses, missesIn, windowOf, mostMisses, earliestJob, windowsAfter, windowsOf}
-use Rattle.windows.specs.Windows as range-of
+use Rattle.windows.specs.Windows as windows-of
 
 -- ---- the chains
 
@@ -129,10 +130,11 @@ abbrev windowsIs : Windows → List ℕ
 windowsIs (window.Most m j) = 0 ∷ m ∷ j .0 ∷ []
 windowsIs (window.Refused r) = r .number ∷ r .place ∷ []
 
--- The first and the last job of the range, and the misses in the windows from jobs 1, 2 and 3 on, which are chain A's range.
+-- The first and the last starting job of the range.
 abbrev range : Chain → List ℕ
-range c = (warmAt (tasksOf c) 0 + 1) ∷ (warmAt (tasksOf c) 0 + range-of.starts (tasksOf c)) ∷ []
+range c = (warmAt (tasksOf c) 0 + 1) ∷ (warmAt (tasksOf c) 0 + windows-of.starts (tasksOf c)) ∷ []
 
+-- The misses in the windows from jobs 1, 2 and 3 on, which are chain A's range.
 abbrev counts : Chain → ℕ → ℕ → List ℕ
 counts c b k = windowOf (tasksOf c) b k 1 ∷ windowOf (tasksOf c) b k 2 ∷ windowOf (tasksOf c) b k 3 ∷ []
 

@@ -1,4 +1,4 @@
--- What holds at each return of `judge` and `most_misses`, and what an accepted call has.
+-- What holds at each return of `judge` and `most_misses_on`, and what an accepted call has.
 use Prim.Native.Nat.{ℕ, _+_, _-_, _/_, _≤_, _<_}
 use native.Mathlib.Omega.{arith}
 use native.Mathlib.Nat.{mul-le-mul-right}

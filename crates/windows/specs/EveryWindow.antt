@@ -1,9 +1,10 @@
 -- Every window of jobs after the warm-up job, over all time: misses repeat with the hyperperiod (`misses-period`), so no window has more than
--- the largest over one hyperperiod of first jobs (`largest-of-all`), and the earliest job that has as many is there (`earliest`).
+-- the largest over one hyperperiod of first jobs (`largest-of-all`), and the earliest job of this range that has as many is the earliest of all (`earliest`).
+-- A mark with these properties is the only one (`one-stretch`).
 use Prim.Native.Nat.{ℕ, zero, suc, _+_, _-_, _*_, _/_, _%_, _≤_, _<_}
 use native.Mathlib.Omega.{arith}
 use native.Mathlib.Nat.{mod-lt, div-add-mod'}
-use native.Mathlib.Decide.{decLe}
+use native.Mathlib.Decide.{decLe, decLt}
 use mathlib.Core.Path.{_≡_, refl, ap, _∙_}
 use mathlib.Core.List.{List}
 use lib.Dec.{ltb, eqb}
@@ -19,6 +20,25 @@ use Rattle.timing.specs.Period.{walk-period}
 use Rattle.ranges.specs.LargestLaws.{largest-top, reached}
 use Rattle.ranges.specs.LeastLaws.{first-found}
 use Rattle.windows.specs.Windows.{spanOf, misses, one, missesIn, starts, windowOf, mostMisses, earliestJob}
+
+-- The mark of a bad stretch: the k jobs from j on, j being in the range, have m misses; no k successive jobs after W1 have more, over all time; and those that begin before j have fewer.
+pub record BadStretch (l : List Task) (B k m j : ℕ) : Type 0 where
+  pub after : warmAt l 0 < j
+  pub within : j ≤ warmAt l 0 + starts l
+  pub has : windowOf l B k j ≡ m
+  pub no-more : (s : ℕ) → warmAt l 0 < s → windowOf l B k s ≤ m
+  pub fewer : (s : ℕ) → warmAt l 0 < s → s < j → windowOf l B k s < m
+
+-- "the same mark on each machine": there is but one.
+pub one-stretch : (l : List Task) (B k m n i j : ℕ) → BadStretch l B k m i → BadStretch l B k n j → (m ≡ n) × (i ≡ j)
+one-stretch l B k m n i j p q =
+    let same : m ≡ n = omega (arith, p .has, q .has, p .no-more j (q .after), q .no-more i (p .after)) in (
+      same,
+      elim (decLt i j) [
+        | yes h ↦ absurd (omega (arith, q .fewer i (p .after) h, p .has))
+        | no h ↦ elim (decLt j i) [ yes g ↦ absurd (omega (arith, p .fewer j (q .after) g, q .has)) | no g ↦ omega arith ]
+      ],
+    )
 
 -- ---- of a chain that passes the checks 8 and 5
 
@@ -76,21 +96,16 @@ module _ (l : List Task) (ok : Sound l) where
         let p = window-periods k (d / q) (warmAt l 0 + 1 + d % q) (omega arith) in
         rw (e, p) (largest-top (windowOf l B k) q (warmAt l 0 + 1) (warmAt l 0 + 1 + d % q) (omega arith) (omega arith))
 
-    -- and the call's job is the first of the range from which k jobs have as many: those before it have fewer.
-    pub record Earliest (k j : ℕ) : Type 0 where
-      pub after : warmAt l 0 + 1 ≤ j
-      pub within : j ≤ warmAt l 0 + starts l
-      pub has : windowOf l B k j ≡ mostMisses l B k
-      pub fewer : (s : ℕ) → warmAt l 0 < s → s < j → windowOf l B k s < mostMisses l B k
-
-    pub earliest : (k : ℕ) → Earliest k (earliestJob l B k)
+    -- and the earliest job of the range from which k jobs have as many is the one mark.
+    pub earliest : (k : ℕ) → BadStretch l B k (mostMisses l B k) (earliestJob l B k)
     unfolding mostMisses earliestJob
     earliest k =
         let r = reached (windowOf l B k) (starts l) (warmAt l 0 + 1) starts-pos in
         let q = first-found (λ s. eqb (windowOf l B k s) (mostMisses l B k)) (starts l) (warmAt l 0 + 1) (r .number) (r .low) (r .high) (eq-eqb _ _ (r .is)) in
         record {
-          after = q .low;
+          after = omega (arith, q .low);
           within = omega (arith, q .high);
           has = eqb-true _ _ (q .passes);
+          no-more = largest-of-all k;
           fewer = λ s u v. let a = largest-of-all k s u in let b : windowOf l B k s ≡ mostMisses l B k → ⊥ = eqb-false _ _ (q .before s (omega arith) v) in omega arith;
         }

@@ -1,4 +1,4 @@
--- What the loops over the first jobs and the jobs of their windows carry.
+-- What the loops over starts and window jobs carry, and what a look at successive starts finds.
 use Prim.Native.Nat.{ℕ, _+_, _-_, _≤_, _<_}
 use mathlib.Core.Path.{_≡_}
 use mathlib.Core.Bool.{Bool, cond}
