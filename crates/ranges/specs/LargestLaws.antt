@@ -49,10 +49,13 @@ module _ (f : ℕ → ℕ) where
       let e : s + suc n ≡ suc s + n = omega arith in
       rw (suc-add, e) (omega (arith, largest-parts n m (suc s)))
 
-  -- with one number more,
-  pub largest-more : (n s : ℕ) → largest f s (suc n) ≡ max (largest f s n) (f (s + n))
+  -- of the numbers from s up to before t, with t as one more,
+  pub largest-more : (s t : ℕ) → s ≤ t → largest f s (t + 1 - s) ≡ max (largest f s (t - s)) (f t)
   unfolding largest
-  largest-more n s = let e : n + 1 ≡ suc n = omega arith in let p = largest-parts n 1 s in let q = rw e at p in omega arith
+  largest-more s t h =
+      let e : t + 1 - s ≡ t - s + 1 = omega arith in
+      let g : s + (t - s) ≡ t = omega arith in
+      rw e (largest-parts (t - s) 1 s ∙ rw g (omega arith))
 
   -- and where the figure stands still.
   pub largest-still : (v n s : ℕ) → 1 ≤ n → ((t : ℕ) → s ≤ t → t < s + n → f t ≡ v) → largest f s n ≡ v

@@ -1,5 +1,5 @@
--- The ring of flags when a job enters, and what is known of the first jobs that were looked at.
-use Prim.Native.Nat.{ℕ, suc, _+_, _-_, _≤_, _<_, max}
+-- The ring of flags when a job enters, and the starts that were looked at.
+use Prim.Native.Nat.{ℕ, _+_, _≤_, _<_}
 use native.Mathlib.Omega.{arith}
 use native.Mathlib.Decide.{decLt, ℕ-discrete}
 use mathlib.Core.Path.{_≡_, sym, ap, _∙_}
@@ -8,8 +8,6 @@ use mathlib.Core.List.{List}
 use lib.ListN.{length, getD, set, length-set}
 use lib.Seq.{getD-set-same, getD-set-other}
 use borrow.Author.Tests.{lt-ltb, le-ltb}
-use Rattle.ranges.specs.Largest.{largest}
-use Rattle.ranges.specs.LargestLaws.{largest-none, largest-more}
 use Rattle.windows.specs.Windows.{one}
 use Rattle.windows.specs.Scan.{Ring, nextIn}
 
@@ -58,20 +56,6 @@ module _ (miss : ℕ → Bool) where
 pub next-inside : (i k : ℕ) → i < k → nextIn i k < k
 next-inside i k h = elim (decLt (i + 1) k) [ yes g ↦ rw (lt-ltb (i + 1) k g) g | no g ↦ rw (le-ltb (i + 1) k (omega arith)) (omega arith) ]
 
--- ---- the first jobs that were looked at: none,
-
-pub none-seen : (f : ℕ → ℕ) (from : ℕ) → 0 ≡ largest f from (from - from)
-none-seen f from = let z : from - from ≡ 0 = omega arith in rw z (sym (largest-none f from))
-
--- and one more
-
-module _ (f : ℕ → ℕ) (from s : ℕ) (low : from ≤ s) (m : ℕ) (e : m ≡ f s) where
-  pub before-more : (goal : ℕ) → ((x : ℕ) → from ≤ x → x < s → f x < goal) → m < goal → (x : ℕ) → from ≤ x → x < s + 1 → f x < goal
-  before-more goal h g x a b = elim (decLt x s) [ yes u ↦ h x a u | no u ↦ let q : x ≡ s = omega arith in rw q (omega arith) ]
-
-  pub most-more : (most : ℕ) → most ≡ largest f from (s - from) → max most m ≡ largest f from (s + 1 - from)
-  most-more most h =
-      let q : s + 1 - from ≡ suc (s - from) = omega arith in
-      let p : from + (s - from) ≡ s = omega arith in
-      let g = rw p at (largest-more f (s - from) from) in
-      rw q (omega arith)
+-- one more start is looked at, whose window has m misses
+pub before-more : (f : ℕ → ℕ) (from s m goal : ℕ) → m ≡ f s → ((x : ℕ) → from ≤ x → x < s → f x < goal) → m < goal → (x : ℕ) → from ≤ x → x < s + 1 → f x < goal
+before-more f from s m goal e h g x a b = elim (decLt x s) [ yes u ↦ h x a u | no u ↦ let q : x ≡ s = omega arith in rw q (omega arith) ]

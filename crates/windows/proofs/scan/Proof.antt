@@ -1,13 +1,14 @@
 use native.Mathlib.Omega.{arith}
 use Prim.Native.Nat.{ℕ, _+_, _-_, _≤_, _<_}
-use mathlib.Core.Path.{_≡_, refl, _∙_}
+use mathlib.Core.Path.{_≡_, refl, sym}
 use Rattle.chain.specs.Flat.{tasksIn}
 use Rattle.ranges.specs.Largest.{largest}
+use Rattle.ranges.specs.LargestLaws.{largest-none, largest-more}
 use Rattle.windows.specs.Windows.{misses, missesIn, windowOf}
 use Rattle.windows.specs.Scan.{Ring}
 use Rattle.windows.specs.Sliding.{none-yet, enters, leaves, grows, at-most}
 use Rattle.windows.proofs.Ends.{flag-small, write-small, number-small}
-use Rattle.windows.proofs.Rings.{ring-none, ring-leaves, ring-first, ring-enters, next-inside, none-seen, before-more, most-more}
+use Rattle.windows.proofs.Rings.{ring-none, ring-leaves, ring-first, ring-enters, next-inside, before-more}
 use Rattle.windows.proofs.scan.Statement.{statement}
 use Rattle.windows.proofs.scan.Tie as tie
 
@@ -33,7 +34,7 @@ abbrev μ-starts : tie.MeasureT-starts
 starts-holds : tie.Need-starts-holds Inv-jobs μ-jobs Inv-starts μ-starts
 starts-holds c =
     let p = c .before .pre in
-    (omega arith, omega (arith, p .3), omega arith, omega (arith, p .1), omega (arith, p .1), ring-none _ _ _ _ refl, none-yet _ _, λ x a b. absurd (omega arith), none-seen _ _)
+    (omega arith, omega (arith, p .3), omega arith, omega (arith, p .1), omega (arith, p .1), ring-none _ _ _ _ refl, none-yet _ _, λ x a b. absurd (omega arith), let z : c .before .args .from .0 - c .before .args .from .0 ≡ 0 = omega arith in rw z (sym (largest-none _ _)))
 
 jobs-holds : tie.Need-jobs-holds Inv-jobs μ-jobs Inv-starts μ-starts
 jobs-holds c = let o = c .before .before .before .starts .inv in (o .2, omega (arith, o .3), o .4, o .5, o .6, λ h. absurd (omega arith))
@@ -130,8 +131,8 @@ starts-again c =
       l .jobs .inv .2,
       ring-leaves _ _ _ _ _ _ (l .jobs .inv .3),
       omega (arith, l .jobs .inv .4, ring-first _ _ _ _ _ _ (l .jobs .inv .3) (l .jobs .inv .2) whole, leaves miss (o .starts .s .0) (l .jobs .j .0) (omega (arith, s .pre .1))),
-      before-more f _ _ (o .starts .inv .0) _ has _ (o .starts .inv .7) (l .jobs .inv .5 (omega (arith, o .starts .inv .3))),
-      c .before .larger .ensures ∙ most-more f _ _ (o .starts .inv .0) _ has _ (o .starts .inv .8),
+      before-more f _ _ _ _ has (o .starts .inv .7) (l .jobs .inv .5 (omega (arith, o .starts .inv .3))),
+      omega (arith, c .before .larger .ensures, has, o .starts .inv .8, largest-more f _ _ (o .starts .inv .0)),
     )
 
 returns : tie.Need-returns Inv-jobs μ-jobs Inv-starts μ-starts
