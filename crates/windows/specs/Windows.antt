@@ -65,6 +65,7 @@ unfoldable pub windowsAfter : List Task → ℕ → ℕ → Verdict → Windows
 windowsAfter l B k (verdict.Refused r) = Refused r
 windowsAfter l B k (verdict.Accepted h) = Most (mostMisses l B k) (record { 0 = earliestJob l B k })
 
+-- The call on a chain: the chain's own checks, then 15, then the answer.
 abbrev pub windowsOf : Chain → ℕ → ℕ → Windows
 windowsOf c B k = windowsAfter (tasksOf c) B k (afterLimits (verdictOf c) k)
 
