@@ -47,7 +47,7 @@ module _ (test : ℕ → Bool) where
   first-least n s j r = go (first-found n s j (r .low) (r .high) (r .passes))
     where
       go : {i : ℕ} → FirstOf test s n i → j ≡ i
-      go {i} q = elim (decLt i j) [
-        | yes h ↦ absurd (true≢false (sym (q .passes) ∙ r .before i (q .low) h))
-        | no h ↦ elim (decLt j i) [ yes g ↦ absurd (true≢false (sym (r .passes) ∙ q .before j (r .low) g)) | no g ↦ omega arith ]
-      ]
+      go {i} q =
+          let a : i < j → ⊥ = λ h. true≢false (sym (q .passes) ∙ r .before i (q .low) h) in
+          let b : j < i → ⊥ = λ h. true≢false (sym (r .passes) ∙ q .before j (r .low) h) in
+          omega arith

@@ -4,7 +4,7 @@
 use Prim.Native.Nat.{ℕ, zero, suc, _+_, _-_, _*_, _/_, _%_, _≤_, _<_}
 use native.Mathlib.Omega.{arith}
 use native.Mathlib.Nat.{mod-lt, div-add-mod'}
-use native.Mathlib.Decide.{decLe, decLt}
+use native.Mathlib.Decide.{decLe}
 use mathlib.Core.Path.{_≡_, refl, ap, _∙_}
 use mathlib.Core.List.{List}
 use lib.Dec.{ltb, eqb}
@@ -32,13 +32,10 @@ pub record BadStretch (l : List Task) (B k m j : ℕ) : Type 0 where
 -- "the same mark on each machine": there is but one.
 pub one-stretch : (l : List Task) (B k m n i j : ℕ) → BadStretch l B k m i → BadStretch l B k n j → (m ≡ n) × (i ≡ j)
 one-stretch l B k m n i j p q =
-    let same : m ≡ n = omega (arith, p .has, q .has, p .no-more j (q .after), q .no-more i (p .after)) in (
-      same,
-      elim (decLt i j) [
-        | yes h ↦ absurd (omega (arith, q .fewer i (p .after) h, p .has))
-        | no h ↦ elim (decLt j i) [ yes g ↦ absurd (omega (arith, p .fewer j (q .after) g, q .has)) | no g ↦ omega arith ]
-      ],
-    )
+    let same : m ≡ n = omega (arith, p .has, q .has, p .no-more j (q .after), q .no-more i (p .after)) in
+    let a : i < j → ⊥ = λ h. omega (arith, q .fewer i (p .after) h, p .has) in
+    let b : j < i → ⊥ = λ h. omega (arith, p .fewer j (q .after) h, q .has) in
+    (same, omega arith)
 
 -- ---- of a chain that passes the checks 8 and 5
 

@@ -34,7 +34,8 @@ abbrev μ-starts : tie.MeasureT-starts
 starts-holds : tie.Need-starts-holds Inv-jobs μ-jobs Inv-starts μ-starts
 starts-holds c =
     let p = c .before .pre in
-    (omega arith, omega (arith, p .3), omega arith, omega (arith, p .1), omega (arith, p .1), ring-none _ _ _ _ refl, none-yet _ _, λ x a b. absurd (omega arith), let z : c .before .args .from .0 - c .before .args .from .0 ≡ 0 = omega arith in rw z (sym (largest-none _ _)))
+    let z : c .before .args .from .0 - c .before .args .from .0 ≡ 0 = omega arith in
+    (omega arith, omega (arith, p .3), omega arith, omega (arith, p .1), omega (arith, p .1), ring-none _ _ _ _ refl, none-yet _ _, λ x a b. absurd (omega arith), rw z (sym (largest-none _ _)))
 
 jobs-holds : tie.Need-jobs-holds Inv-jobs μ-jobs Inv-starts μ-starts
 jobs-holds c = let o = c .before .before .before .starts .inv in (o .2, omega (arith, o .3), o .4, o .5, o .6, λ h. absurd (omega arith))
