@@ -148,10 +148,14 @@ uint64_t mo_low(const uint64_t *starts, size_t starts_length,
                 const uint64_t *latencies, size_t latencies_length,
                 uint64_t g, uint64_t h, uint64_t *low);
 
-/* The mean delay, sum / ticks: the sum of the delays at the h ticks from starts[0] on, and h. They have not been divided by a common divisor. */
+/*
+ * The mean delay, by area, is doubled_area / doubled_ticks: twice the sum of the delays at the h ticks from starts[0] on, less h, and twice h.
+ * Within each tick the delay falls by one, so this is the mean of the delay at every time of a hyperperiod, its integral over h, and half a
+ * tick less than the mean of the delays at whole ticks. The two numbers have not been divided by a common divisor.
+ */
 uint64_t mo_mean(const uint64_t *starts, size_t starts_length,
                  const uint64_t *latencies, size_t latencies_length,
-                 uint64_t g, uint64_t h, uint64_t *sum, uint64_t *ticks);
+                 uint64_t g, uint64_t h, uint64_t *doubled_area, uint64_t *doubled_ticks);
 
 /* The throughput, anchors in ticks: g and h as they are. */
 uint64_t mo_throughput(const uint64_t *starts, size_t starts_length,
@@ -358,7 +362,7 @@ uint64_t mo_bookings(const uint64_t *tasks, size_t tasks_length, size_t count,
  *     a 8 16
  *     max 18
  *     low 10
- *     mean 174 12
+ *     mean 336 24
  *     walked 2
  *
  * A chain without a table has the one line "refused 7 0" after its number where its hyperperiod is too long (MO_HYPERPERIOD_TOO_LONG), and

@@ -1,7 +1,7 @@
 """Reference program of Meshorchard: delay tables for chains of
 fixed-duration tasks of cave-survey laser instruments.
 
-It is written from document 01 and orders 1 and 2 of document 02 alone and
+It is written from document 01 and orders 1 to 3 of document 02 alone and
 follows their definitions as literally as running time allows.  It uses the
 standard library only.
 
@@ -555,12 +555,21 @@ def low(starts, latencies, g, H):
 
 
 def mean(starts, latencies, g, H):
-    """Mean: the sum of the delays at the H ticks, and H."""
+    """Mean by area: ("ok", numerator, denominator), or refusal 14.
+
+    Document 02, order 3: "The delay falls within each tick.  Mean becomes
+    two numbers: twice the sum at whole ticks less H, and twice H."  The sum
+    is that of document 01, of the delays at the H ticks from first start.
+    H is taken off once, after the doubling: chain A gives 336 and 24.  A
+    common divisor stays.
+    """
     if not well_formed(starts, latencies, g, H):
         return refused(14)
     if H <= ENUMERATION_LIMIT:
-        return ("ok", sum_by_enumeration(starts, latencies, g, H), H)
-    return ("ok", sum_by_segments(starts, latencies, g, H), H)
+        total = sum_by_enumeration(starts, latencies, g, H)
+    else:
+        total = sum_by_segments(starts, latencies, g, H)
+    return ("ok", 2 * total - H, 2 * H)
 
 
 def throughput(starts, latencies, g, H):

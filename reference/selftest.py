@@ -12,6 +12,7 @@ import math
 import random
 import re
 import sys
+from fractions import Fraction
 
 sys.dont_write_bytecode = True
 
@@ -160,6 +161,29 @@ def anchors_from_delays(delays, x0):
     return found
 
 
+def area_below(pieces, end):
+    """The exact area below the delay, from the first start to the end.
+
+    A piece is (start, latency).  Up to the next start the delay is the
+    latency less the time since the start, a straight line.  So a piece's
+    area is its length times half the sum of its two end values.
+    """
+    area = Fraction(0)
+    next_starts = [start for start, _latency in pieces[1:]] + [end]
+    for (start, latency), next_start in zip(pieces, next_starts):
+        length = next_start - start
+        area += Fraction(latency + (latency - length), 2) * length
+    return area
+
+
+def mean_of_pieces(pieces, H):
+    """The area and H, both doubled: two whole numbers."""
+    doubled = 2 * area_below(pieces, pieces[0][0] + H)
+    if doubled.denominator != 1:
+        raise AssertionError("twice the area is not whole")
+    return (doubled.numerator, 2 * H)
+
+
 # ---------------------------------------------------------------------------
 # Random chains and tables
 # ---------------------------------------------------------------------------
@@ -251,7 +275,8 @@ def group_survey_a(_rng):
     for z, expected in ((12, 12), (17, 17), (18, 10), (23, 15)):
         same(ref.age(A, z), ("ok", expected), "A5 age at %d" % z)
     same(ref.low(*TABLE_A), ("ok", 10), "A6 low")
-    same(ref.mean(*TABLE_A), ("ok", 174, 12), "A6 mean")
+    # The mean of order 3; document 01 still has 174 and 12.
+    same(ref.mean(*TABLE_A), ("ok", 336, 24), "A6 mean by area")
     same(ref.greatest(*TABLE_A), ("ok", 18), "greatest")
     same(ref.throughput(*TABLE_A), ("ok", 2, 12), "throughput")
     for B, expected in ((18, 0), (14, 4), (11, 11), (10, "endless")):
@@ -308,7 +333,7 @@ a 0 18
 a 8 16
 max 18
 low 10
-mean 174 12
+mean 336 24
 walked 2
 """
 
@@ -348,7 +373,8 @@ def group_file_of_chain_a(_rng):
     same(ref.read_file(file), ("ok", tasks, [[1, 2], [2]]), "two chains")
     same(ref.write_file(*schedule(tasks, [[1, 2], [2]]), bytes(60)),
          (("ok", 54), file + bytes(6)), "two chains written")
-    # Its one anchor: press at 0, read at 6, write at 12.
+    # Its one anchor: press at 0, read at 6, write at 12.  The delay falls
+    # from 12 to 6 in 6 ticks, an area of 6 times 9, which is 54.
     same(ref.report(file), REPORT_A + b"""chain 2
 warm 0
 hyper 6
@@ -356,7 +382,7 @@ anchors 1
 a 0 12
 max 12
 low 6
-mean 57 6
+mean 108 12
 walked 1
 """, "report of two chains")
 
@@ -463,7 +489,7 @@ def group_demand_3(rng):
             same(ref.greatest(starts, latencies, g, H), ("ok", max(delays)),
                  "greatest " + what)
             same(ref.mean(starts, latencies, g, H),
-                 ("ok", sum(delays[:H]), H), "mean " + what)
+                 ("ok", *mean_of_pieces(from_delays, H)), "mean " + what)
             same(ref.low(starts, latencies, g, H), ("ok", min(delays) - 1),
                  "low " + what)
             for offset, one in enumerate(delays):
@@ -518,8 +544,8 @@ def group_figures(rng):
     for _ in range(25):
         table = random_table(rng, 60_000)
         starts, latencies, g, H = table
-        same(ref.mean(*table), ("ok", ref.sum_by_enumeration(*table), H),
-             "large mean")
+        same(ref.sum_by_segments(*table), ref.sum_by_enumeration(*table),
+             "large sum")
         same(ref.low(*table), ("ok", ref.low_by_enumeration(*table)),
              "large low")
         for B in (rng.choice(latencies[:g]), rng.randint(0, 2 * H)):
@@ -532,9 +558,261 @@ def group_figures(rng):
     same(ref.exceedance(*one, 1), ("ok", "endless"), "endless at the limit")
     same(ref.exceedance(*one, 2), ("ok", 59_999_998), "run at the limit")
     # The delays are 60,000,000 down to 2.
-    same(ref.mean(*one),
-         ("ok", 60_000_000 * 60_000_001 // 2 - 1, 59_999_999),
-         "mean at the limit")
+    same(ref.sum_by_segments(*one), 60_000_000 * 60_000_001 // 2 - 1,
+         "sum at the limit")
+
+
+# ---------------------------------------------------------------------------
+# Mean by area, order 3
+# ---------------------------------------------------------------------------
+
+FINER = (1, 2, 3, 5, 10)
+
+
+def limit_table(rng):
+    """A random well-formed table with values up to the limits."""
+    while True:
+        H = rng.choice([1, 2, 19_999, 20_000, 20_001, 59_999_999, 60_000_000,
+                        rng.randint(1, 40_000), rng.randint(1, 60_000_000)])
+        g = rng.randint(1, min(H, 6))
+        # One piece of 60,000,000 ticks is too long for any latency.
+        if g == 1 and H == 60_000_000:
+            continue
+        first = rng.choice([0, rng.randint(0, 50), 1_000_000_000])
+        offsets = [0] + sorted(rng.sample(range(1, H), g - 1))
+        starts = [first + offset for offset in offsets]
+        latencies = []
+        for start, end in zip(starts, starts[1:] + [first + H]):
+            least = end - start + 1
+            latencies.append(rng.choice([least, 60_000_000,
+                                         rng.randint(least, 60_000_000)]))
+        return starts + [0], latencies + [0], g, H
+
+
+def delay_at_time(starts, latencies, g, H, time):
+    """The delay that a table gives at a time, whole or not.
+
+    The time lies within the H ticks from first start.
+    """
+    found = None
+    for start, latency in list(zip(starts, latencies))[:g]:
+        if start <= time:
+            found = latency - (time - start)
+    return found
+
+
+def group_mean_by_hand(_rng):
+    million = 1_000_000
+    most = 60 * million
+    # A table, its pieces as (length, delay at the start, delay at the end),
+    # and the two numbers.  Twice a piece's area is its length times the sum
+    # of its two delays.
+    cases = [
+        ("chain A", TABLE_A, [(8, 18, 10), (4, 16, 12)], 336, 24),
+        ("chain B", ([5], [13], 1, 10), [(10, 13, 3)], 160, 20),
+        # An area of 62 and a half.
+        ("chain C", ([0], [15], 1, 5), [(5, 15, 10)], 125, 10),
+        ("chain D", ([90], [16], 1, 10), [(10, 16, 6)], 220, 20),
+        ("H one", ([0], [2], 1, 1), [(1, 2, 1)], 3, 2),
+        ("entry from g on", ([3, 5, 0], [4, 9, 7], 2, 6),
+         [(2, 4, 2), (4, 9, 5)], 68, 12),
+        ("two anchors in two ticks", ([4, 5], [2, 3], 2, 2),
+         [(1, 2, 1), (1, 3, 2)], 8, 4),
+        ("H one, latency at its limit", ([1_000 * million], [most], 1, 1),
+         [(1, most, 59_999_999)], 119_999_999, 2),
+        # 20,000 times 20,002 is 20,001 squared less one, and 20,001 times
+        # 20,003 is 20,002 squared less one.
+        ("last H tick by tick", ([0], [20_001], 1, 20_000),
+         [(20_000, 20_001, 1)], 400_040_000, 40_000),
+        ("first H anchor by anchor", ([0], [20_002], 1, 20_001),
+         [(20_001, 20_002, 1)], 400_080_003, 40_002),
+        # 60,000,000 squared less one.
+        ("one anchor at the limits", ([1_000 * million], [most], 1,
+                                      59_999_999),
+         [(59_999_999, most, 1)], 3_599_999_999_999_999, 119_999_998),
+        # The same piece and 3 more.
+        ("H at its limit", ([0, 1], [2, most], 2, most),
+         [(1, 2, 1), (59_999_999, most, 1)], 3_600_000_000_000_002,
+         120 * million),
+        # 2 times 119,999,998 is 239,999,996.  59,999,998 times 60,000,002
+        # is 60,000,000 squared less four.
+        ("H and latencies at the limit", ([7, 9], [most, most], 2, most),
+         [(2, most, 59_999_998), (59_999_998, most, 2)],
+         3_600_000_239_999_992, 120 * million),
+        ("two halves", ([0, 30 * million], [most, most], 2, most),
+         [(30 * million, most, 30 * million)] * 2, 5_400_000_000_000_000,
+         120 * million),
+        # 60,000,000 times 119,999,000.
+        ("many anchors", (list(range(0, most, 1_000)), [most] * 60_000,
+                          60_000, most),
+         [(1_000, most, 59_999_000)] * 60_000, 7_199_940_000_000_000,
+         120 * million),
+    ]
+    for what, table, pieces, above, below in cases:
+        starts, latencies, g, H = table
+        same(sum(length for length, _first, _last in pieces), H,
+             what + ", length of the pieces")
+        same(sum(length * (first + last) for length, first, last in pieces),
+             above, what + ", area by hand")
+        same(ref.mean(*table), ("ok", above, below), what)
+        same(mean_of_pieces(list(zip(starts, latencies))[:g], H),
+             (above, below), what + ", the area as the self test has it")
+    # The area of chain A is 168 and its mean 14, half a tick below the 174
+    # in 12 of document 01.
+    same(area_below([(0, 18), (8, 16)], 12), Fraction(168), "area of A")
+    same(Fraction(336, 24), Fraction(14), "mean of A")
+    same(ref.sum_by_enumeration(*TABLE_A), 174, "sum of A at whole ticks")
+    same(Fraction(174, 12) - Fraction(336, 24), Fraction(1, 2),
+         "half a tick too much")
+    # The same from the chains themselves.
+    chains = [(CHAIN_A, 336, 24), ([(10, 3, 5)], 160, 20),
+              ([(5, 5, 0), (5, 5, 0)], 125, 10),
+              ([(10, 2, 0), (10, 1, 95)], 220, 20), ([(1, 1, 0)], 3, 2)]
+    for tasks, above, below in chains:
+        for p in range(1, len(tasks) + 1):
+            answer, starts, latencies = ref.make(tasks, p, [5] * 4, [6] * 4)
+            same(ref.mean(starts, latencies, answer[1], answer[3]),
+                 ("ok", above, below), "%r cut at %d" % (tasks, p))
+
+
+def check_printed_means(text, what):
+    """Each chain's printed mean is the area below its printed anchors."""
+    means = 0
+    for part in re.split(rb"(?m)^chain \d+\n", text)[1:]:
+        lines = [line.split() for line in part.decode().splitlines()]
+        figures = {line[0]: line[1:] for line in lines}
+        if "refused" in figures:
+            continue
+        pieces = [(int(line[1]), int(line[2])) for line in lines
+                  if line[0] == "a"]
+        above, below = mean_of_pieces(pieces, int(figures["hyper"][0]))
+        same(figures["mean"], [str(above), str(below)], what)
+        means += 1
+    return means
+
+
+def group_mean_by_area(rng):
+    tables = [random_table(rng, rng.choice([1, 2, 5, 40, 150]))
+              for _ in range(500)]
+    tables += [random_table(rng, 60_000) for _ in range(40)]
+    tables += [limit_table(rng) for _ in range(200)]
+    methods = set()
+    finer_means = 0
+    for number, table in enumerate(tables):
+        starts, latencies, g, H = table
+        what = "%r g %d H %d" % (starts[:g], g, H)
+        same(ref.well_formed(*table), True, "well-formed " + what)
+        area = area_below(list(zip(starts, latencies))[:g], starts[0] + H)
+        word, above, below = ref.mean(*table)
+        same((word, type(above), type(below)), ("ok", int, int), what)
+        # The area in H ticks; the two numbers are not reduced.
+        same(Fraction(above, below), area / H, "area in H ticks " + what)
+        same(below, 2 * H, "twice H " + what)
+        same(ref.low(*table)[1] < Fraction(above, below)
+             < ref.greatest(*table)[1], True, "low, mean, greatest " + what)
+        if g == 1:
+            same(2 * Fraction(above, below),
+                 Fraction(ref.low(*table)[1] + ref.greatest(*table)[1]),
+                 "one anchor: midway of low and greatest " + what)
+        methods.add((H > ref.ENUMERATION_LIMIT, g > 1))
+        if H > 150:
+            continue
+        # Tick by tick: within a tick the line's value in the middle is the
+        # tick's area.
+        middles = [delay_at_time(*table, starts[0] + r + Fraction(1, 2))
+                   for r in range(H)]
+        same(sum(middles, Fraction(0)), area, "area by ticks " + what)
+        # On a finer clock the same table has the same mean.
+        for n in FINER:
+            finer = ([n * one for one in starts],
+                     [n * one for one in latencies], g, n * H)
+            if number % 10 == 0:
+                same(ref.delays_of_hyperperiod(*finer),
+                     [n * delay_at_time(*table, starts[0] + Fraction(k, n))
+                      for k in range(n * H)], "finer delays " + what)
+            if n * starts[0] <= 1_000_000_000 \
+                    and n * max(latencies[:g]) <= 60_000_000:
+                same(ref.mean(*finer), ("ok", n * n * above, n * below),
+                     "finer mean " + what)
+                finer_means += 1
+    same(len(methods), 4, "both methods, one anchor and several")
+    same(finer_means > 1_000, True, "finer means")
+    # Reports: two chains of three have H beyond the limit.
+    means = 0
+    for turn in range(20):
+        chains = [small_chain(rng, 120, 4)]
+        while len(chains) < 3:
+            tasks = large_chain(rng)[:6]
+            H = math.lcm(*[task[0] for task in tasks])
+            if 20_000 < H <= 300 * max(task[0] for task in tasks):
+                chains.append(tasks)
+        tasks, numbers = schedule_of_chains(rng, chains)
+        file = b"".join(task_record(*task) for task in tasks)
+        file += b"".join(map(chain_record, numbers)) + END
+        means += check_printed_means(ref.report(file), "report %d" % turn)
+    same(means, 60, "printed means")
+    # A refused chain between two others prints no mean.
+    file = task_record(1, 1_024, 1, 0) + task_record(2, 1_025, 1, 0) \
+        + task_record(3, 1_026, 1, 0) + chain_record([1, 2]) \
+        + chain_record([2, 3]) + chain_record([1]) + END
+    same(check_printed_means(ref.report(file), "1,024 anchors"), 2,
+         "printed means beside 11")
+
+
+def group_mean_on_finer_clocks(rng):
+    """The mean against the walk alone, with presses between whole ticks.
+
+    On a clock n times finer every period, duration and phase is n times as
+    large, and a press may fall on n ticks where there was one.
+    """
+    chains = [CHAIN_A, [(10, 3, 5)], [(5, 5, 0), (5, 5, 0)],
+              [(10, 2, 0), (10, 1, 95)], [(1, 1, 0)], [(1, 1, 0)] * 12,
+              [(1, 1, 0), (6, 1, 0)], [(100, 1, 0), (10, 1, 50)]]
+    chains += [small_chain(rng, 60) for _ in range(150)]
+    # One whose mean is had anchor by anchor: H is 20,010.
+    chains.append([(138, 9, 3), (145, 200, 31)])
+    for tasks in chains:
+        _ok, way, x0, H = ref.warm_up(tasks)
+        p = rng.randint(1, len(tasks))
+        answer, starts, latencies = ref.make(tasks, p, [0] * H, [0] * H)
+        _ok, above, below = ref.mean(starts, latencies, answer[1], H)
+        integral = Fraction(above, below) * H
+        whole = [literal_delay(tasks, x0 + offset) for offset in range(H)]
+        sums = {}
+        clocks = FINER if H <= 1_000 else (1, 3)
+        for n in clocks:
+            what = "%r on a clock %d times finer" % (tasks, n)
+            finer = [(n * T, n * D, n * F) for T, D, F in tasks]
+            same(ref.warm_up(finer), ("ok", way, n * x0, n * H), what)
+            walk = [ref.walked_delay(finer, n * x0 + k) for k in range(n * H)]
+            # The delay falls within each tick.
+            same(walk, [n * one - i for one in whole for i in range(n)],
+                 "delays of " + what)
+            # The clock does not matter: a press at a time between ticks.
+            k = rng.randrange(n * H)
+            same(Fraction(walk[k], n),
+                 Fraction(literal_delay(tasks, x0 + Fraction(k, n))),
+                 "literal walk of " + what)
+            same(ref.delay(finer, n * x0 + k), ("ok", walk[k]), what)
+            # A finer tick is 1/n wide and its delays count n-ths.  Within
+            # it the delay begins at the walk's and never falls by more than
+            # one finer tick.  So the integral lies between two sums, which
+            # come nearer to each other as n grows.
+            upper = Fraction(sum(walk), n) / n
+            lower = Fraction(sum(one - 1 for one in walk), n) / n
+            same(upper - lower, Fraction(H, n), "between the sums, " + what)
+            same(lower < integral, True, "sum from below, " + what)
+            same(integral < upper, True, "sum from above, " + what)
+            sums[n] = upper
+            # The finer chain's own table and mean.
+            answer, starts, latencies = ref.make(finer, p, [0] * H, [0] * H)
+            same(ref.mean(starts, latencies, answer[1], n * H),
+                 ("ok", n * n * above, n * below), "mean of " + what)
+        # The sums from above lie on a line over 1/n.  Its value at 0, where
+        # the clock has no ticks any more, is the integral.
+        for n, m in itertools.combinations(clocks, 2):
+            same((m * sums[m] - n * sums[n]) / (m - n), integral,
+                 "limit of the sums for %d and %d, %r" % (n, m, tasks))
 
 
 # ---------------------------------------------------------------------------
@@ -1771,7 +2049,7 @@ def literal_report(tasks):
     text = "warm %d\nhyper %d\nanchors %d\n" % (x0, H, len(found))
     text += "".join("a %d %d\n" % anchor for anchor in found)
     text += "max %d\nlow %d\nmean %d %d\n" % (
-        max(delays), min(delays) - 1, sum(delays), H)
+        max(delays), min(delays) - 1, *mean_of_pieces(found, H))
     text += "walked %d\n" % (H // max(T for T, _D, _F in tasks))
     return text
 
@@ -1991,6 +2269,9 @@ GROUPS = [
     ("refusals of two chains", group_pair_refusals),
     ("windows by hand", group_windows_by_hand),
     ("windows by chain number", group_windows_of_schedules),
+    ("mean by hand", group_mean_by_hand),
+    ("mean by area", group_mean_by_area),
+    ("mean on finer clocks", group_mean_on_finer_clocks),
 ]
 
 

@@ -108,7 +108,7 @@ def columns_of(who, periods):
     table = who.table(tasks, periods.index(max(periods)) + 1)
     (greatest,) = who.figure("greatest", *table)
     (low,) = who.figure("low", *table)
-    total, ticks = who.figure("mean", *table)
+    area, ticks = who.figure("mean", *table)
     anchors, hyperperiod = who.figure("throughput", *table)
     bound = Fraction(95, 100) * greatest
     if bound.denominator != 1:
@@ -120,8 +120,7 @@ def columns_of(who, periods):
     return (
         Fraction(greatest, TICKS),
         Fraction(low, TICKS),
-        # The mean over whole ticks less half a tick is the integral's.
-        (Fraction(total, ticks) - Fraction(1, 2)) / TICKS,
+        Fraction(area, ticks) / TICKS,
         Fraction(anchors * TICKS, hyperperiod),
         Fraction(who.windows(tasks, int(bound))),
         Fraction(run, TICKS),

@@ -26,8 +26,8 @@ static void check_figures(void)
     expect("A's low, code", mo_low(starts, 3, latencies, 3, 2, 12, &a), 0);
     expect("A's low", a, 10);
     expect("A's mean, code", mo_mean(starts, 3, latencies, 3, 2, 12, &a, &b), 0);
-    expect("A's mean, sum", a, 174);
-    expect("A's mean, ticks", b, 12);
+    expect("A's mean, doubled area", a, 336);
+    expect("A's mean, doubled ticks", b, 24);
     expect("A's throughput, code", mo_throughput(starts, 3, latencies, 3, 2, 12, &a, &b), 0);
     expect("A's throughput, anchors", a, 2);
     expect("A's throughput, ticks", b, 12);

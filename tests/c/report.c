@@ -18,7 +18,7 @@ static const uint8_t file_a[48] = {
     8, 0, 2, 0, 1, 0, 2, 0,
     4, 0, 3, 0,
 };
-#define TEXT_A "chain 1\nwarm 0\nhyper 12\nanchors 2\na 0 18\na 8 16\nmax 18\nlow 10\nmean 174 12\nwalked 2\n"
+#define TEXT_A "chain 1\nwarm 0\nhyper 12\nanchors 2\na 0 18\na 8 16\nmax 18\nlow 10\nmean 336 24\nwalked 2\n"
 
 /* Two chains, 1 2 and 3, of tasks (4, 4, 0), (6, 6, 0) and (10, 3, 5). */
 static const uint8_t file_s[72] = {
@@ -29,7 +29,7 @@ static const uint8_t file_s[72] = {
     6, 0, 2, 0, 3, 0,
     4, 0, 3, 0,
 };
-#define TEXT_S TEXT_A "chain 2\nwarm 5\nhyper 10\nanchors 1\na 5 13\nmax 13\nlow 3\nmean 85 10\nwalked 1\n"
+#define TEXT_S TEXT_A "chain 2\nwarm 5\nhyper 10\nanchors 1\na 5 13\nmax 13\nlow 3\nmean 160 20\nwalked 1\n"
 
 /* The same chains of tasks (769, 1, 0), (78125, 1, 0) and (7, 1, 0): the hyperperiod of the first is above the limit. */
 static const uint8_t file_refused[72] = {
@@ -40,7 +40,7 @@ static const uint8_t file_refused[72] = {
     6, 0, 2, 0, 3, 0,
     4, 0, 3, 0,
 };
-#define TEXT_SECOND "warm 0\nhyper 7\nanchors 1\na 0 8\nmax 8\nlow 1\nmean 35 7\nwalked 1\n"
+#define TEXT_SECOND "warm 0\nhyper 7\nanchors 1\na 0 8\nmax 8\nlow 1\nmean 63 14\nwalked 1\n"
 
 static uint8_t out[MO_LONGEST_REPORT];
 

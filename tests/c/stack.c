@@ -50,7 +50,7 @@ static void put(uint64_t value, int bytes)
 }
 
 /* Thirty-two tasks and four chains of twelve places: the longest file. The hyperperiods, also that of two chains together, are the greatest
- * there is, and the durations too, so that the sum of the mean has as many digits as any: a number is written by a call for each digit. */
+ * there is, and the durations too, so that the area of the mean has as many digits as any: a number is written by a call for each digit. */
 static void prepare(void)
 {
     for (size_t i = 0; i < 32; i++) {
@@ -71,7 +71,7 @@ static void prepare(void)
     put(4, 2), put(3, 2);
 }
 
-/* How many digits the sum of the mean has, from the report. */
+/* How many digits the area of the mean has, from the report. */
 static size_t mean_digits(void)
 {
     const char *line = strstr((const char *)text, "mean ");
@@ -140,6 +140,6 @@ int main(void)
     held("mo_bookings", bookings, MO_STACK_BOOKINGS);
     expect("bookings, and not a refusal", both[0] > 999999999999u, 1);
     held("mo_report", report, MO_STACK_REPORT);
-    expect("digits of the sum", mean_digits(), 16);
+    expect("digits of the mean's area", mean_digits(), 16);
     return counted();
 }

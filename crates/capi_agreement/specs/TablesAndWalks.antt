@@ -1,6 +1,6 @@
 -- Demand 3 of the calls for C, from their own contracts: from code 0 of mo_make_table, mo_read_table gives at every tick what mo_delay gives (`table-is-walk-for-c`),
 -- two cuts leave the same entries below g (`cuts-agree-for-c`), and mo_greatest's latency is the greatest delay of mo_delay and 1 + the greatest age of mo_age
--- (`greatest-for-c`). When mo_make_table answers 0 is `completes-for-c`.
+-- (`greatest-for-c`). When mo_make_table answers 0 is `completes-for-c`. And mo_mean's two numbers give the mean of the walk's delay over all time of a hyperperiod (`mean-for-c`).
 use Prim.Native.Nat.{ℕ, _+_, _*_, _/_, _≤_, _<_}
 use native.Mathlib.Omega.{arith}
 use mathlib.Core.Path.{_≡_, sym, ap, _∙_}
@@ -17,19 +17,22 @@ use Rattle.timing.specs.WarmUp.{warmTick}
 use Rattle.timing.specs.Delay.{delayAt, firstAged, ageAt}
 use Rattle.timing.specs.Answers.{upperTick}
 use Rattle.timing.specs.Spans.{span-answered}
+use Rattle.timing.specs.FinerClock.{delayTimed}
 use Rattle.table.specs.Reading.{reading, wordOf, GivesWord}
 use Rattle.table.specs.Words.{word-small}
-use Rattle.figures.specs.Figures.{greatestOf}
+use Rattle.figures.specs.Figures.{greatestOf, meanOf}
+use Rattle.figures.specs.Integral.{Integral}
 use Rattle.maker.specs.declared.Figures.{Figures}
 use Rattle.maker.specs.declared.Made.the-variants as made
 use Rattle.maker.specs.Making.{judged, Makes}
 use Rattle.maker.proofs.Exits.{tells-so}
 use Rattle.agreement.specs.Agreement.{SameGreatest, held, table-is-walk, cuts-agree, greatest-is-delay-and-age}
+use Rattle.agreement.specs.MeanByArea.{mean-is-integral}
 use Rattle.agreement.specs.EveryChain.{Asked, room-enough}
 use Rattle.capi_chain.specs.FlatChain.{taskAt, chainFrom}
 use Rattle.capi_chain.specs.Front.{chain-at, chain-twelve, places-inside, chain-count, places-given}
 use Rattle.capi_timing.specs.Calls.{spanCode, spanTicks, GivesCheck, GivesDelay, GivesAge}
-use Rattle.capi_figures.specs.Calls.{greatestNumbers, GivesGreatest}
+use Rattle.capi_figures.specs.Calls.{greatestNumbers, GivesGreatest, meanNumbers, GivesMean}
 use Rattle.capi_maker.specs.Calls.{madeCode, madeNumbers, GivesTable}
 use Rattle.capi_agreement.specs.Codes.{check-zero, span-zero, made-zero}
 
@@ -146,6 +149,18 @@ module _ (tasks : List ℕ) (places : ℕ) where
             age-meets = λ k age q. (q .0 ∙ ap spanCode o, omega (arith, q .1 ∙ ap spanTicks o, old .meets));
           },
         )
+
+    -- The mean by area: twice the integral of the walk's delay over h ticks from the warm-up tick on, and twice h.
+    pub mean-for-c : (code′ area ticks : ℕ) → GivesMean s′ v′ (count figures) (hyper figures) code′ area ticks
+        → (code′ ≡ 0) × Integral (delayTimed (tasksOf c)) (tick figures) (hyper figures) area × (ticks ≡ 2 * hyper figures)
+    mean-for-c code′ area ticks g =
+        let m = mean-is-integral c twelve p s v s′ v′ (done .given) (done .makes) in
+        let n : (code′ ∷ area ∷ ticks ∷ []) ≡ 0 ∷ m .area ∷ (2 * done .given .hyperperiod) ∷ []
+        = g ∙ ap (λ (x : ℕ). meanNumbers (meanOf s′ v′ x (hyper figures))) (done .anchors)
+        ∙ ap (λ (x : ℕ). meanNumbers (meanOf s′ v′ (done .given .anchors) x)) (done .hyperperiod) ∙ ap meanNumbers (m .answered) in
+        let e : area ≡ m .area = ap (λ (l : List ℕ). getD l 1 0) n in
+        let k : ticks ≡ 2 * done .given .hyperperiod = ap (λ (l : List ℕ). getD l 2 0) n in
+        (ap (λ (l : List ℕ). getD l 0 0) n, rw (e, done .from, done .hyperperiod) (m .integral), omega (arith, k, done .hyperperiod))
 
   pub cuts-agree-for-c : (p q : ℕ) (s v : List ℕ) (code : ℕ) (s′ v′ figures : List ℕ) → GivesTable c p s v code s′ v′ figures → code ≡ 0
       → (x y : List ℕ) (code″ : ℕ) (x′ y′ figures″ : List ℕ) → GivesTable c q x y code″ x′ y′ figures″ → code″ ≡ 0

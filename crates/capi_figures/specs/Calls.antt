@@ -6,7 +6,7 @@ use mathlib.Core.List.{List, [], _∷_}
 use Rattle.refusal.specs.Refusals.{codeOf}
 use Rattle.figures.specs.declared.Greatest.{Greatest}
 use Rattle.figures.specs.declared.Greatest.the-variants as greatest
-use Rattle.figures.specs.Figures.{greatestOf}
+use Rattle.figures.specs.Figures.{greatestOf, meanOf}
 use Rattle.figures.specs.declared.Low.{Low}
 use Rattle.figures.specs.declared.Low.the-variants as low
 use Rattle.figures.specs.declared.Mean.{Mean}
@@ -30,10 +30,14 @@ abbrev pub lowNumbers : Low → List ℕ
 lowNumbers (low.Limit v) = 0 ∷ v ∷ []
 lowNumbers (low.Refused r) = codeOf r ∷ 0 ∷ []
 
--- The sum of the delays, and H.
+-- Mean by area, order 3 of document 02: its two numbers.
 abbrev pub meanNumbers : Mean → List ℕ
-meanNumbers (mean.Sum delays ticks) = 0 ∷ delays ∷ ticks ∷ []
+meanNumbers (mean.Doubled area ticks) = 0 ∷ area ∷ ticks ∷ []
 meanNumbers (mean.Refused r) = codeOf r ∷ 0 ∷ 0 ∷ []
+
+-- The call: its code and the two numbers.
+abbrev pub GivesMean : List ℕ → List ℕ → ℕ → ℕ → ℕ → ℕ → ℕ → Type 0
+GivesMean starts latencies g h code area ticks = (code ∷ area ∷ ticks ∷ []) ≡ meanNumbers (meanOf starts latencies g h)
 
 -- The anchors, and H.
 abbrev pub throughputNumbers : Throughput → List ℕ

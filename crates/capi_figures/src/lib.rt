@@ -7,8 +7,8 @@ use figures::Mean;
 use figures::Throughput;
 ghost use mathlib.Core.Path.{_≡_};
 ghost use mathlib.Core.List.{[], _∷_};
-ghost use Rattle.figures.specs.Figures.{lowOf, meanOf, throughputOf, exceedanceOf};
-ghost use Rattle.capi_figures.specs.Calls.{GivesGreatest, lowNumbers, meanNumbers, throughputNumbers, exceedanceNumbers};
+ghost use Rattle.figures.specs.Figures.{lowOf, throughputOf, exceedanceOf};
+ghost use Rattle.capi_figures.specs.Calls.{GivesGreatest, lowNumbers, GivesMean, throughputNumbers, exceedanceNumbers};
 
 // The greatest latency.
 #[no_mangle]
@@ -52,31 +52,28 @@ pub extern "C" fn mo_low(starts: &[u64], latencies: &[u64], g: u64, h: u64, low:
     }
 }
 
-// The mean delay: the sum of the delays at the ticks of one hyperperiod, and the number of these ticks.
+// The mean delay, doubled_area / doubled_ticks: the area under the delay over one hyperperiod and its ticks, both doubled.
 #[no_mangle]
 pub extern "C" fn mo_mean(
     starts: &[u64],
     latencies: &[u64],
     g: u64,
     h: u64,
-    sum: &mut u64,
-    ticks: &mut u64,
+    doubled_area: &mut u64,
+    doubled_ticks: &mut u64,
 ) -> u64
-    ensures { λ r. ⌜ (r ∷ now (sum .exit) ∷ now (ticks .exit) ∷ []) ≡ meanNumbers (meanOf (now (starts .entry)) (now (latencies .entry)) g h) ⌝ }
+    ensures { λ r. ⌜ GivesMean (now (starts .entry)) (now (latencies .entry)) g h r (now («doubled_area» .exit)) (now («doubled_ticks» .exit)) ⌝ }
 {
     let a = figures::mean_of(starts, latencies, g as usize, h);
     match a {
-        Mean::Sum {
-            delays: s,
-            ticks: n,
-        } => {
-            *sum = s;
-            *ticks = n;
+        Mean::Doubled { area: v, ticks: n } => {
+            *doubled_area = v;
+            *doubled_ticks = n;
             0
         }
         Mean::Refused(f) => {
-            *sum = 0;
-            *ticks = 0;
+            *doubled_area = 0;
+            *doubled_ticks = 0;
             f.code()
         }
     }

@@ -15,7 +15,7 @@ use Rattle.table.specs.BothWays.{well-formed-laws}
 use Rattle.table.specs.Delays.{greatest-small}
 use Rattle.figures.specs.Ticks.{scan}
 use Rattle.figures.specs.Exceeding.{stretch, round-bounded, best-grows}
-use Rattle.figures.specs.Gathering.{gathered, withAnchor, Gathers, firstLatency, gathering, gathers-anchors, sum-small}
+use Rattle.figures.specs.Gathering.{gathered, withAnchor, Gathers, firstLatency, gathering, gathers-anchors, area-small}
 
 module _ (s v : List ℕ) (g H : ℕ) (w : WellFormed s v g H) where
   -- one turn of a fold
@@ -47,10 +47,10 @@ module _ (s v : List ℕ) (g H : ℕ) (w : WellFormed s v g H) where
       let b = rw first at (round-bounded B H (anchors s v g) (well-formed-laws s v g H w) (z .best) z (h, omega arith)) in
       omega (arith, best-grows B (getD s 0 0 + H) (drop i (anchors s v g)) t, ap (λ (n : Scan). n .best) inv, b .1, w .hyper .1)
 
-  pub gather-small : (i : ℕ) (m : Gathered) → Whole ≡ segments withAnchor (getD s 0 0 + H) (drop i (anchors s v g)) m → m .sum ≤ hyperLimit * latencyLimit
+  pub gather-small : (i : ℕ) (m : Gathered) → Whole ≡ segments withAnchor (getD s 0 0 + H) (drop i (anchors s v g)) m → m .area ≤ hyperLimit * (2 * latencyLimit)
   gather-small i m inv =
-      let k : m .sum ≤ H * latencyLimit
-      = sum-small H (anchors s v g) (drop i (anchors s v g)) m (well-formed-laws s v g H w) (greatest-small s v g H w) (rw first (rw first at whole ∙ inv)) in
+      let k : m .area ≤ H * (2 * latencyLimit)
+      = area-small H (anchors s v g) (drop i (anchors s v g)) m (well-formed-laws s v g H w) (greatest-small s v g H w) (rw first (rw first at whole ∙ inv)) in
       omega (arith, w .hyper .1)
 
   pub gather-end : (m : Gathered) → m ≡ Whole → Gathers H (anchors s v g) m

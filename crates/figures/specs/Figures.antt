@@ -1,8 +1,8 @@
--- Document 01, "Figures of a table": mean and longest exceedance of a list of anchors, and what each call answers. 14 is the one refusal.
--- Greatest latency and low are in the table's own Figures.
+-- Document 01, "Figures of a table", and order 3 of document 02: mean and longest exceedance of a list of anchors, and what each call answers.
+-- 14 is the one refusal. Greatest latency and low are in the table's own Figures.
 use mathlib.Core.Bool.{cond}
 use mathlib.Core.List.{List}
-use Prim.Native.Nat.{ℕ, _*_}
+use Prim.Native.Nat.{ℕ, _-_, _*_}
 use Rattle.refusal.specs.Refusals.{refusal}
 use Rattle.figures.specs.declared.Greatest.{Greatest}
 use Rattle.figures.specs.declared.Greatest.the-variants as greatest-answer
@@ -20,9 +20,14 @@ use Rattle.table.specs.Reading.{delayAt}
 use Rattle.table.specs.Figures.{greatest, low}
 use Rattle.figures.specs.Ticks.{total, everyAbove, longestRun}
 
--- Mean: the sum of the delays at the H ticks from first start. The mean is this sum and H.
+-- The sum of the delays at whole ticks, the H ticks from first start.
 unfoldable pub delaySum : ℕ → List Anchor → ℕ
 delaySum H l = total (delayAt H l) (firstStart l) H
+
+-- Mean by area, the first of its two numbers: twice the sum at whole ticks less H. That it is twice the area under the delay, which falls
+-- within each tick, is `mean-integral` in FinerTable. The second is twice H.
+unfoldable pub doubledArea : ℕ → List Anchor → ℕ
+doubledArea H l = 2 * delaySum H l - H
 
 -- Longest exceedance of B: endless where each of the H ticks from first start has a delay above B, else the longest run in two
 -- hyperperiods from first start. That this is the longest run without end of time is `exceedance-run` in Exceeding, and that endless
@@ -49,7 +54,7 @@ lowOf starts latencies g H =
 unfoldable pub meanOf : List ℕ → List ℕ → ℕ → ℕ → Mean
 meanOf starts latencies g H =
     cond (wellFormed starts latencies g H)
-    (mean-answer.Sum (delaySum H (anchors starts latencies g)) H)
+    (mean-answer.Doubled (doubledArea H (anchors starts latencies g)) (2 * H))
     (mean-answer.Refused (refusal 14 0))
 
 -- Throughput: g anchors in H ticks.

@@ -21,11 +21,12 @@ module _ {S : Type 0} (step : S → ℕ → S) where
       ap (λ (v : ℕ). ticks step f (suc s) n (step z v)) e
       ∙ ticks-same f g n (suc s) (suc t) (step z (g t)) (λ i l. rw (suc-add s i, suc-add t i, ← (add-suc s i), ← (add-suc t i)) (h (suc i) (omega arith)))
 
-abbrev pub plus : ℕ → ℕ → ℕ
-plus z v = z + v
+-- a tick whose figure is v adds w v
+abbrev pub adding : (ℕ → ℕ) → ℕ → ℕ → ℕ
+adding w z v = z + w v
 
--- the sum is the fold by plus
-pub total-ticks : (f : ℕ → ℕ) (n s z : ℕ) → ticks plus f s n z ≡ z + total f s n
+-- the sum is the fold that adds
+pub total-ticks : (w f : ℕ → ℕ) (n s z : ℕ) → ticks (adding w) f s n z ≡ z + total (λ t. w (f t)) s n
 unfolding ticks total
-total-ticks f zero s z = omega arith
-total-ticks f (suc n) s z = total-ticks f n (suc s) (z + f s) ∙ omega arith
+total-ticks w f zero s z = omega arith
+total-ticks w f (suc n) s z = total-ticks w f n (suc s) (z + w (f s)) ∙ omega arith

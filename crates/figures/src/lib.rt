@@ -24,9 +24,9 @@ pub enum Low {
     Refused(Refusal),
 }
 
-// The sum of the delays at the ticks of one hyperperiod, and the number of these ticks.
+// The mean delay is area / ticks: the area under the delay over one hyperperiod and its ticks, both doubled, so that the area is a whole number.
 pub enum Mean {
-    Sum { delays: u64, ticks: u64 },
+    Doubled { area: u64, ticks: u64 },
     Refused(Refusal),
 }
 
@@ -59,18 +59,23 @@ fn smaller(a: u64, b: u64) -> u64
 struct Gathered {
     greatest: u64,
     low: u64,
-    sum: u64,
+    area: u64,
 }
 
-// One anchor more: latency v over d ticks, whose delays fall by one from v.
+// One anchor more: latency v over d ticks, in which the delay falls from v to v - d. Twice the area below it is added.
 fn with_anchor(m: Gathered, d: u64, v: u64) -> Gathered
-    requires { ⌜ (1 ≤ d) × (d < v) × (v ≤ latencyLimit) × (m .sum ≤ hyperLimit * latencyLimit) ⌝ }
+    requires { ⌜ (d < v) × (v ≤ latencyLimit) × (m .area ≤ hyperLimit * (2 * latencyLimit)) ⌝ }
     ensures { λ r. ⌜ r ≡ withAnchor m d v ⌝ }
 {
     let greatest = larger(m.greatest, v);
-    let low = smaller(m.low, v - d);
-    let sum = m.sum + d * (v + (v - d + 1)) / 2;
-    Gathered { greatest, low, sum }
+    let end = v - d;
+    let low = smaller(m.low, end);
+    let area = m.area + d * (v + end);
+    Gathered {
+        greatest,
+        low,
+        area,
+    }
 }
 
 // The ticks from the start at place i to the next start, which is `end` after the last place.
@@ -95,7 +100,7 @@ fn gather(starts: &[u64], latencies: &[u64], g: usize, h: u64) -> Gathered
     let mut m = Gathered {
         greatest: 0,
         low: latencies[0],
-        sum: 0,
+        area: 0,
     };
     let mut i = 0;
     while i < g {
@@ -133,7 +138,7 @@ pub fn low_of(starts: &[u64], latencies: &[u64], g: usize, h: u64) -> Low
     Low::Limit(m.low)
 }
 
-// The mean delay as two numbers.
+// The mean delay, by area, as two numbers.
 pub fn mean_of(starts: &[u64], latencies: &[u64], g: usize, h: u64) -> Mean
     ensures { λ r. ⌜ r ≡ meanOf (now (starts .entry)) (now (latencies .entry)) g h ⌝ }
 {
@@ -144,9 +149,9 @@ pub fn mean_of(starts: &[u64], latencies: &[u64], g: usize, h: u64) -> Mean
         });
     }
     let m = gather(starts, latencies, g, h);
-    Mean::Sum {
-        delays: m.sum,
-        ticks: h,
+    Mean::Doubled {
+        area: m.area,
+        ticks: 2 * h,
     }
 }
 

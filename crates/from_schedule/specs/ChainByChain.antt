@@ -1,6 +1,6 @@
 -- "Table and walk must agree chain by chain" (order 1 of document 02): the third demand of every chain of every schedule, of the analyses from a schedule.
 -- The table that making gives of chain n is read at every tick as walking chain n gives it (`table-is-walk-from`); its greatest latency is the greatest delay of walking and 1 + the greatest age of ageing chain n
--- (`greatest-from`); two cuts give the same anchors (`cuts-agree-from`). With no premise on what making answers: `every-chain-from`, `every-two-cuts-from`.
+-- (`greatest-from`); two cuts give the same anchors (`cuts-agree-from`); its mean by area is that of the walk over all time (`mean-from`). With no premise on what making answers: `every-chain-from`, `every-two-cuts-from`.
 use Prim.Native.Nat.{ℕ, suc, _≤_}
 use native.Mathlib.Omega.{arith}
 use native.Mathlib.Decide.{decLt}
@@ -27,6 +27,7 @@ use Rattle.maker.specs.declared.Made.the-variants.{Whole}
 use Rattle.maker.specs.Making.{figuresOf, Makes}
 use Rattle.agreement.specs.GreatestAge.{GreatestWithin}
 use Rattle.agreement.specs.Agreement.{SameTicks, SameAnchors, SameGreatest, table-is-walk, cuts-agree, greatest-is-delay-and-age}
+use Rattle.agreement.specs.MeanByArea.{MeanIsIntegral, mean-is-integral}
 use Rattle.agreement.specs.EveryChain.{Asked, anchorCount, every-chain, every-two-cuts}
 use Rattle.from_schedule.specs.Answers.{delayFrom, ageFrom, MakesFrom}
 
@@ -102,6 +103,9 @@ module _ (s : Schedule) (a : Arrays s) (n : ℕ) where
 
     pub greatest-from : SameGreatestFrom s n starts′ latencies′ f
     greatest-from = same-from completed-chosen starts′ latencies′ f (greatest-is-delay-and-age (chainAt s n) (chosen-twelve s n a completed-chosen) p starts latencies starts′ latencies′ f made)
+
+    pub mean-from : MeanIsIntegral (chainAt s n) starts′ latencies′ f
+    mean-from = mean-is-integral (chainAt s n) (chosen-twelve s n a completed-chosen) p starts latencies starts′ latencies′ f made
 
   pub cuts-agree-from : (p q : ℕ) (starts latencies starts′ latencies′ : List ℕ) (f : Figures) → MakesFrom s n p starts latencies starts′ latencies′ (Whole f)
       → (x y x′ y′ : List ℕ) (g : Figures) → MakesFrom s n q x y x′ y′ (Whole g) → SameAnchors starts′ latencies′ x′ y′ f g

@@ -1,4 +1,4 @@
--- Document 01, "Survey examples": the report of chain A's file, computed from the definitions.
+-- Document 01, "Survey examples", with the mean by area of order 3 of document 02: the report of chain A's file, computed from the definitions.
 use Prim.Native.Nat.{ℕ}
 use mathlib.Core.Path.{_≡_, refl}
 use mathlib.Core.List.{List, [], _∷_}
@@ -19,10 +19,10 @@ use Rattle.table.specs.Anchors.{anchors}
 use Rattle.table.specs.Reading.{lastAt, delayAt}
 use Rattle.table.specs.Figures.{greatest, lowTo, low}
 use Rattle.figures.specs.Ticks.{total}
-use Rattle.figures.specs.Figures.{delaySum}
+use Rattle.figures.specs.Figures.{delaySum, doubledArea}
 use Rattle.maker.specs.Making.{judged, madeAfter, writtenAfter}
 use Rattle.text.specs.Text.{ascii, lastDigits, decimal, fields, line}
-use Rattle.table_text.specs.TableText.{anchorLines, headText, figuresText, tableText}
+use Rattle.table_text.specs.TableText.{anchorLines, headText, meanText, figuresText, tableText}
 use Rattle.report.specs.Report.{longestPeriod, longestPlace, madeText, chainText, partText, partsText, scheduleText, fileText, reportOf}
 
 -- Chain A, tasks 1 and 2 in a file of 48 bytes.
@@ -33,6 +33,6 @@ fileA =
     ∷ 8 ∷ 0 ∷ 2 ∷ 0 ∷ 1 ∷ 0 ∷ 2 ∷ 0
     ∷ 4 ∷ 0 ∷ 3 ∷ 0 ∷ []
 
-pub report-a : reportOf fileA ≡ ascii "chain 1\nwarm 0\nhyper 12\nanchors 2\na 0 18\na 8 16\nmax 18\nlow 10\nmean 174 12\nwalked 2\n"
-unfolding withinLimits earliestFrom latestBy forwardLink backwardLink euclid gcdOf lcmOf valueOf numberAt forwardBy onLatest backwardBy firstFault hyperVerdict verdictFor hyperFrom taskRule positionOf known taskNumbered padded routeNumbered numbersFrom allKnown taskRecord chainRecord endRecord kindRecord recordOf afterRecord readFrom leastFrom warmLast warmAt warmTick rangeFrom keep fresh dropRepeats startOf endOf keeps anchorsFrom anchors lastAt delayAt greatest lowTo low total delaySum judged madeAfter writtenAfter lastDigits decimal fields line longestPeriod longestPlace anchorLines headText figuresText tableText madeText chainText partText partsText scheduleText fileText
+pub report-a : reportOf fileA ≡ ascii "chain 1\nwarm 0\nhyper 12\nanchors 2\na 0 18\na 8 16\nmax 18\nlow 10\nmean 336 24\nwalked 2\n"
+unfolding withinLimits earliestFrom latestBy forwardLink backwardLink euclid gcdOf lcmOf valueOf numberAt forwardBy onLatest backwardBy firstFault hyperVerdict verdictFor hyperFrom taskRule positionOf known taskNumbered padded routeNumbered numbersFrom allKnown taskRecord chainRecord endRecord kindRecord recordOf afterRecord readFrom leastFrom warmLast warmAt warmTick rangeFrom keep fresh dropRepeats startOf endOf keeps anchorsFrom anchors lastAt delayAt greatest lowTo low total delaySum doubledArea judged madeAfter writtenAfter lastDigits decimal fields line longestPeriod longestPlace anchorLines headText meanText figuresText tableText madeText chainText partText partsText scheduleText fileText
 report-a = refl

@@ -39,7 +39,7 @@ use Rattle.figures.specs.declared.Mean.the-variants as mean
 use Rattle.figures.specs.declared.Exceedance.{Exceedance}
 use Rattle.figures.specs.declared.Exceedance.the-variants as run
 use Rattle.figures.specs.Ticks.{total, everyAbove, longestRun, ticks}
-use Rattle.figures.specs.Figures.{delaySum, exceedance, greatestOf, lowOf, meanOf, exceedanceOf}
+use Rattle.figures.specs.Figures.{delaySum, doubledArea, exceedance, greatestOf, lowOf, meanOf, exceedanceOf}
 use Rattle.partition.specs.Lists.{rangeFrom, keep, fresh, dropRepeats}
 use Rattle.partition.specs.Partitions.{startOf, endOf, keeps, anchorsFrom}
 use Rattle.maker.specs.Making.{judged, madeAfter, madeOf, writtenAfter, writtenOf, startsOf, latenciesOf, told}
@@ -112,7 +112,7 @@ lowIs (least.Limit n) = 0 ∷ n ∷ []
 lowIs (least.Refused r) = r .number ∷ r .place ∷ []
 
 abbrev meanIs : Mean → List ℕ
-meanIs (mean.Sum s h) = 0 ∷ s ∷ h ∷ []
+meanIs (mean.Doubled area ticks) = 0 ∷ area ∷ ticks ∷ []
 meanIs (mean.Refused r) = r .number ∷ r .place ∷ []
 
 -- A run is 0 and its length, and `endless` is 1.
@@ -154,7 +154,7 @@ computed =
     ∷ readOf (read.reading (starts A 2) (latencies A 2) 2 12 11) ∷ readOf (read.reading (starts A 2) (latencies A 2) 2 12 12)
     -- A5
     ∷ ticksOf (ageOf A 12) ∷ ticksOf (ageOf A 17) ∷ ticksOf (ageOf A 18) ∷ ticksOf (ageOf A 23)
-    -- A6
+    -- A6, the mean by area since order 3 of document 02
     ∷ lowIs (lowOf (starts A 2) (latencies A 2) 2 12) ∷ meanIs (meanOf (starts A 2) (latencies A 2) 2 12) ∷ greatestIs (greatestOf (starts A 2) (latencies A 2) 2 12)
     -- A7
     ∷ runIs (exceedanceOf (starts A 2) (latencies A 2) 2 12 18) ∷ runIs (exceedanceOf (starts A 2) (latencies A 2) 2 12 14)
@@ -185,7 +185,7 @@ said =
     ∷ (0 ∷ 18 ∷ []) ∷ (0 ∷ 11 ∷ []) ∷ (0 ∷ 16 ∷ [])
     ∷ (0 ∷ 13 ∷ []) ∷ (0 ∷ 18 ∷ [])
     ∷ (0 ∷ 12 ∷ []) ∷ (0 ∷ 17 ∷ []) ∷ (0 ∷ 10 ∷ []) ∷ (0 ∷ 15 ∷ [])
-    ∷ (0 ∷ 10 ∷ []) ∷ (0 ∷ 174 ∷ 12 ∷ []) ∷ (0 ∷ 18 ∷ [])
+    ∷ (0 ∷ 10 ∷ []) ∷ (0 ∷ 336 ∷ 24 ∷ []) ∷ (0 ∷ 18 ∷ [])
     ∷ (0 ∷ 0 ∷ []) ∷ (0 ∷ 4 ∷ [])
     ∷ (0 ∷ 11 ∷ []) ∷ (1 ∷ [])
     ∷ (0 ∷ 2 ∷ 3 ∷ []) ∷ (1 ∷ 3 ∷ []) ∷ (1 ∷ 1 ∷ 2 ∷ [])
@@ -199,5 +199,5 @@ said =
     ∷ []
 
 pub survey : computed ≡ said
-unfolding computed withinLimits earliestFrom latestBy forwardLink backwardLink euclid gcdOf lcmOf forwardBy onLatest backwardBy hyperFrom firstFault hyperVerdict verdictFor leastFrom warmLast warmAt warmTick delayAt firstAged ageAt entries warmUpAfter spanAfter anchors spaced wellFormed read.reading read.delayAt read.lastAt greatest lowTo low total everyAbove longestRun ticks delaySum exceedance greatestOf lowOf meanOf exceedanceOf rangeFrom keep fresh dropRepeats startOf endOf keeps anchorsFrom judged madeAfter writtenAfter spanOf misses missesIn largest mostMisses earliestJob windowsAfter
+unfolding computed withinLimits earliestFrom latestBy forwardLink backwardLink euclid gcdOf lcmOf forwardBy onLatest backwardBy hyperFrom firstFault hyperVerdict verdictFor leastFrom warmLast warmAt warmTick delayAt firstAged ageAt entries warmUpAfter spanAfter anchors spaced wellFormed read.reading read.delayAt read.lastAt greatest lowTo low total everyAbove longestRun ticks delaySum doubledArea exceedance greatestOf lowOf meanOf exceedanceOf rangeFrom keep fresh dropRepeats startOf endOf keeps anchorsFrom judged madeAfter writtenAfter spanOf misses missesIn largest mostMisses earliestJob windowsAfter
 survey = refl

@@ -1,5 +1,5 @@
 -- The figures of a well-formed table are not refused.
-use Prim.Native.Nat.{ℕ}
+use Prim.Native.Nat.{ℕ, _*_}
 use native.Mathlib.Omega.{arith}
 use mathlib.Core.Path.{_≡_}
 use mathlib.Core.Bool.{Bool, true, cond}
@@ -14,7 +14,7 @@ use Rattle.figures.specs.declared.Low.{Low}
 use Rattle.figures.specs.declared.Low.the-variants as least
 use Rattle.figures.specs.declared.Mean.{Mean}
 use Rattle.figures.specs.declared.Mean.the-variants as mean
-use Rattle.figures.specs.Figures.{delaySum, greatestOf, lowOf, meanOf}
+use Rattle.figures.specs.Figures.{doubledArea, greatestOf, lowOf, meanOf}
 
 taken : {A : Type 0} (b : Bool) (x y r : A) → b ≡ true → r ≡ cond b x y → r ≡ x
 taken b x y r h e = rw h at e
@@ -40,12 +40,12 @@ module _ (s v : List ℕ) (g H : ℕ) (well : wellFormed s v g H ≡ true) where
   pub low-told : (a : Low) (r : Refusal) → a ≡ lowOf s v g H → a ≡ least.Refused r → ⊥
   low-told a r e d = let h = low-there a e in let z : _≡_ {A = ℕ} 0 1 = cc in omega arith
 
-  mean-there : (a : Mean) → a ≡ meanOf s v g H → a ≡ mean.Sum (delaySum H (anchors s v g)) H
+  mean-there : (a : Mean) → a ≡ meanOf s v g H → a ≡ mean.Doubled (doubledArea H (anchors s v g)) (2 * H)
   unfolding meanOf
   mean-there a e = taken (wellFormed s v g H) _ _ a well e
 
-  pub sum-is : (a : Mean) (x t : ℕ) → a ≡ meanOf s v g H → a ≡ mean.Sum x t → x ≡ delaySum H (anchors s v g)
-  sum-is a x t e d = let h = mean-there a e in cc
+  pub mean-is : (a : Mean) (x t : ℕ) → a ≡ meanOf s v g H → a ≡ mean.Doubled x t → (x ≡ doubledArea H (anchors s v g)) × (t ≡ 2 * H)
+  mean-is a x t e d = let h = mean-there a e in (cc, cc)
 
   pub mean-told : (a : Mean) (r : Refusal) → a ≡ meanOf s v g H → a ≡ mean.Refused r → ⊥
   mean-told a r e d = let h = mean-there a e in let z : _≡_ {A = ℕ} 0 1 = cc in omega arith

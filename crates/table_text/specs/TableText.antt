@@ -1,10 +1,10 @@
 -- Document 01, program `chainreport`: the text of a table and its figures, and the line of a refusal.
-use Prim.Native.Nat.{ℕ}
+use Prim.Native.Nat.{ℕ, _*_}
 use mathlib.Core.List.{List, [], _∷_, _++_}
 use Rattle.refusal.specs.declared.Refusal.{Refusal}
 use Rattle.table.specs.Anchors.{Anchor}
 use Rattle.table.specs.Figures.{greatest, low}
-use Rattle.figures.specs.Figures.{delaySum}
+use Rattle.figures.specs.Figures.{doubledArea}
 use Rattle.maker.specs.declared.Figures.{Figures}
 use Rattle.text.specs.Text.{ascii, line}
 
@@ -21,9 +21,13 @@ anchorLines (a ∷ l) = line (ascii "a") (a .start ∷ a .latency ∷ []) ++ anc
 unfoldable pub headText : Figures → List ℕ
 headText f = line (ascii "warm") (f .tick .0 ∷ []) ++ (line (ascii "hyper") (f .hyperperiod ∷ []) ++ line (ascii "anchors") (f .anchors ∷ []))
 
+-- mean, which has been by area since order 3 of document 02: its two numbers;
+unfoldable pub meanText : ℕ → List Anchor → List ℕ
+meanText H l = line (ascii "mean") (doubledArea H l ∷ 2 * H ∷ [])
+
 -- greatest, low, mean;
 unfoldable pub figuresText : ℕ → List Anchor → List ℕ
-figuresText H l = line (ascii "max") (greatest l ∷ []) ++ (line (ascii "low") (low H l ∷ []) ++ line (ascii "mean") (delaySum H l ∷ H ∷ []))
+figuresText H l = line (ascii "max") (greatest l ∷ []) ++ (line (ascii "low") (low H l ∷ []) ++ meanText H l)
 
 -- these around the anchors, and walked.
 unfoldable pub tableText : Figures → List Anchor → List ℕ

@@ -12,9 +12,8 @@ ghost use lib.ListN.{length};
 ghost use Rattle.table.specs.Anchors.{anchors};
 ghost use Rattle.table.specs.WellFormed.{wellFormed};
 ghost use Rattle.table.specs.Figures.{greatest, low};
-ghost use Rattle.figures.specs.Figures.{delaySum};
 ghost use Rattle.text.specs.Text.{Puts};
-ghost use Rattle.table_text.specs.TableText.{refusedText, anchorLines, headText, figuresText, tableText, longestTable};
+ghost use Rattle.table_text.specs.TableText.{refusedText, anchorLines, headText, meanText, figuresText, tableText, longestTable};
 ghost use Rattle.table_text.specs.Widths.{FewDigits};
 
 // ---- lines
@@ -76,14 +75,15 @@ fn low_of(starts: &[u64], latencies: &[u64], g: usize, h: u64) -> u64
     }
 }
 
-fn sum_of(starts: &[u64], latencies: &[u64], g: usize, h: u64) -> u64
-    requires { ⌜ wellFormed (now starts) (now latencies) g h ≡ true ⌝ }
-    ensures { λ r. ⌜ r ≡ delaySum h (anchors (now (starts .entry)) (now (latencies .entry)) g) ⌝ }
+// The line of the mean, with its two numbers.
+fn put_mean(out: &mut [u8], at: usize, starts: &[u64], latencies: &[u64], g: usize, h: u64) -> usize
+    requires { ⌜ (wellFormed (now starts) (now latencies) g h ≡ true) × (at ≤ 121000) ⌝ }
+    ensures { λ n. ⌜ (Puts (meanText h (anchors (now (starts .entry)) (now (latencies .entry)) g)) at (now (out .entry)) (now (out .exit)) n) × (n ≤ at + 47) ⌝ }
 {
     let v = figures::mean_of(starts, latencies, g, h);
     match v {
-        Mean::Sum { delays, ticks } => delays,
-        Mean::Refused(_) => 0,
+        Mean::Doubled { area, ticks } => text::put_pair(out, at, b"mean", area, ticks),
+        Mean::Refused(_) => at,
     }
 }
 
@@ -101,7 +101,7 @@ fn put_figures(
 {
     let a = text::put_line(out, at, b"max", greatest_of(starts, latencies, g, h));
     let b = text::put_line(out, a, b"low", low_of(starts, latencies, g, h));
-    text::put_pair(out, b, b"mean", sum_of(starts, latencies, g, h), h)
+    put_mean(out, b, starts, latencies, g, h)
 }
 
 // The text of a completed table.

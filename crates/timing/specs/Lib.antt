@@ -6,3 +6,4 @@ pub mod WarmLaws
 pub mod WarmRanges
 pub mod Period
 pub mod Spans
+pub mod FinerClock

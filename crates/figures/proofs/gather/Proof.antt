@@ -49,7 +49,7 @@ with-anchor-requires : tie.Need-with-anchor-requires Inv-loop μ-loop
 with-anchor-requires c κs =
     let n = c .before .before in
     let d = c .before .distance-at .ensures in
-    (omega (arith, place n, d), omega (arith, place n, d), place n .1, gather-small _ _ _ _ (n .before .before .before .before .before .before .pre) (n .before .loop .i) (n .before .loop .m) (n .before .loop .inv .1))
+    (omega (arith, place n, d), place n .1, gather-small _ _ _ _ (n .before .before .before .before .before .before .pre) (n .before .loop .i) (n .before .loop .m) (n .before .loop .inv .1))
 
 add-i : tie.Need-add-i Inv-loop μ-loop
 add-i c = omega arith

@@ -22,23 +22,17 @@ low-of-requires c κs = search needs
 put-line-requires-2 : tie.Need-put-line-requires-2
 put-line-requires-2 c κs = search needs
 
-slice-aggregate-put-pair : tie.Need-slice-aggregate-put-pair
-slice-aggregate-put-pair c = search needs
-
-sum-of-requires : tie.Need-sum-of-requires
-sum-of-requires c κs = search needs
-
-put-pair-requires : tie.Need-put-pair-requires
-put-pair-requires c κs = search needs
+put-mean-requires : tie.Need-put-mean-requires
+put-mean-requires c κs = search needs
 
 same-length : tie.Need-same-length
 same-length c = search needs
 
 returns : tie.Need-returns
-returns c = (
-  figures-lines _ _ _ _ _ _ _ _ _ _ _ _ _ (c .before .before .before .before .before .before .before .before .before .before .before .before .before .before .before .greatest-of .ensures) (c .before .before .before .before .before .before .before .before .before .low-of .ensures) (c .before .before .before .sum-of .ensures) (c .before .before .before .before .before .before .before .before .before .before .before .before .before .before .put-line .ensures .0) (c .before .before .before .before .before .before .before .before .put-line2 .ensures .0) (c .before .before .put-pair .ensures .0),
-  omega arith,
-)
+returns c =
+    let second = c .before .before .before .before .before .before in
+    let first = second .before .before .before .before .before .before in
+    (figures-lines _ _ _ _ _ _ _ _ _ _ _ _ (first .before .greatest-of .ensures) (second .before .low-of .ensures) (first .put-line .ensures .0) (second .put-line2 .ensures .0) (c .before .before .put-mean .ensures .0), omega arith)
 
 pub put-figures-spec : {M : Type 1} → statement M
 put-figures-spec =
@@ -50,8 +44,6 @@ put-figures-spec =
     slice-aggregate-put-line-2
     low-of-requires
     put-line-requires-2
-    slice-aggregate-put-pair
-    sum-of-requires
-    put-pair-requires
+    put-mean-requires
     same-length
     returns)
