@@ -33,6 +33,21 @@ static void check_figures(void)
     expect("A's throughput, ticks", b, 12);
 }
 
+/* The shortest table there is, and one with the greatest hyperperiod and latencies. */
+static void check_means(void)
+{
+    static const uint64_t one_start[1] = { 0 }, one_latency[1] = { 2 };
+    static const uint64_t two_starts[2] = { 7, 9 }, two_latencies[2] = { 60000000, 60000000 };
+    uint64_t a = RUBBISH, b = RUBBISH;
+
+    expect("mean of one tick, code", mo_mean(one_start, 1, one_latency, 1, 1, 1, &a, &b), 0);
+    expect("mean of one tick, doubled area", a, 3);
+    expect("mean of one tick, doubled ticks", b, 2);
+    expect("mean at the limits, code", mo_mean(two_starts, 2, two_latencies, 2, 2, 60000000, &a, &b), 0);
+    expect("mean at the limits, doubled area", a, 3600000239999992u);
+    expect("mean at the limits, doubled ticks", b, 120000000);
+}
+
 /* One exceedance of chain A's table. */
 static void exceedance(const char *what, uint64_t bound, uint64_t run, uint64_t endless)
 {
@@ -114,6 +129,7 @@ static void check_refused_chains(void)
 int main(void)
 {
     check_figures();
+    check_means();
     check_exceedances();
     check_refused_figures();
     check_chains();

@@ -1,5 +1,6 @@
 /*
- * Making a table through the header, held to document 01's survey examples and refusals, and the made table read at ticks against the walk.
+ * Making a table through the header, held to document 01's survey examples and refusals, and the made table read at ticks against the walk;
+ * then the mean by area of the made tables of several chains.
  * tests/c/run builds and runs it.
  */
 #include "meshorchard.h"
@@ -80,10 +81,39 @@ static void check_agreement(void)
     }
 }
 
+/* The mean of a chain's table, cut at its first place. */
+static void mean(const char *what, const uint64_t *tasks, size_t places, uint64_t area, uint64_t ticks)
+{
+    static uint64_t many_starts[28], many_latencies[28];
+    uint64_t a = RUBBISH, b = RUBBISH;
+
+    expect(what, mo_make_table(tasks, 3 * places, places, 1, many_starts, 28, many_latencies, 28, figures), 0);
+    expect("  its mean, code", mo_mean(many_starts, 28, many_latencies, 28, figures[0], figures[2], &a, &b), 0);
+    expect("  its mean, doubled area", a, area);
+    expect("  its mean, doubled ticks", b, ticks);
+}
+
+/* Examples A, B, C and D, and a chain whose table has twelve anchors. */
+static void check_means(void)
+{
+    static const uint64_t chain_b[3] = { 10, 3, 5 };
+    static const uint64_t chain_c[6] = { 5, 5, 0, 5, 5, 0 };
+    static const uint64_t chain_d[6] = { 10, 2, 0, 10, 1, 95 };
+    static const uint64_t twelve_anchors[9] = { 3, 2, 1, 7, 5, 2, 4, 4, 0 };
+
+    mean("A's table", chain_a, 2, 336, 24);
+    mean("B's table", chain_b, 1, 160, 20);
+    mean("C's table", chain_c, 2, 125, 10);
+    mean("D's table", chain_d, 2, 220, 20);
+    mean("a table of twelve anchors", twelve_anchors, 3, 2856, 168);
+    expect("  its anchors", figures[0], 12);
+}
+
 int main(void)
 {
     check_making();
     check_refusals();
     check_agreement();
+    check_means();
     return counted();
 }
