@@ -150,8 +150,8 @@ uint64_t mo_low(const uint64_t *starts, size_t starts_length,
 
 /*
  * The mean delay, by area, is doubled_area / doubled_ticks: twice the sum of the delays at the h ticks from starts[0] on, less h, and twice h.
- * Within each tick the delay falls by one, so this is the mean of the delay at every time of a hyperperiod, its integral over h, and half a
- * tick less than the mean of the delays at whole ticks. The two numbers have not been divided by a common divisor.
+ * Within each tick the delay falls by one, so this is the mean of the delay at every time of a hyperperiod, its integral divided by h, and
+ * half a tick less than the mean of the delays at whole ticks. The two numbers have not been divided by a common divisor.
  */
 uint64_t mo_mean(const uint64_t *starts, size_t starts_length,
                  const uint64_t *latencies, size_t latencies_length,
@@ -364,6 +364,8 @@ uint64_t mo_bookings(const uint64_t *tasks, size_t tasks_length, size_t count,
  *     low 10
  *     mean 336 24
  *     walked 2
+ *
+ * with the mean's two numbers as mo_mean gives them.
  *
  * A chain without a table has the one line "refused 7 0" after its number where its hyperperiod is too long (MO_HYPERPERIOD_TOO_LONG), and
  * "refused 11 0" where it has more than 1,024 anchors (MO_LISTS_TOO_SHORT); the next chain follows all the same. The report of bytes that

@@ -660,9 +660,10 @@ def group_mean_by_hand(_rng):
     # The area of chain A is 168 and its mean 14, half a tick below the 174
     # in 12 of document 01.
     same(area_below([(0, 18), (8, 16)], 12), Fraction(168), "area of A")
-    same(Fraction(336, 24), Fraction(14), "mean of A")
+    same(Fraction(*ref.mean(*TABLE_A)[1:]), Fraction(14), "mean of A")
     same(ref.sum_by_enumeration(*TABLE_A), 174, "sum of A at whole ticks")
-    same(Fraction(174, 12) - Fraction(336, 24), Fraction(1, 2),
+    same(Fraction(ref.sum_by_enumeration(*TABLE_A), 12)
+         - Fraction(*ref.mean(*TABLE_A)[1:]), Fraction(1, 2),
          "half a tick too much")
     # The same from the chains themselves.
     chains = [(CHAIN_A, 336, 24), ([(10, 3, 5)], 160, 20),

@@ -43,6 +43,7 @@ static void check_means(void)
     expect("mean of one tick, code", mo_mean(one_start, 1, one_latency, 1, 1, 1, &a, &b), 0);
     expect("mean of one tick, doubled area", a, 3);
     expect("mean of one tick, doubled ticks", b, 2);
+    a = b = RUBBISH;
     expect("mean at the limits, code", mo_mean(two_starts, 2, two_latencies, 2, 2, 60000000, &a, &b), 0);
     expect("mean at the limits, doubled area", a, 3600000239999992u);
     expect("mean at the limits, doubled ticks", b, 120000000);

@@ -4,7 +4,7 @@ pub mod WellSpaced
 pub mod GreatestAge
 pub mod MadeTable
 pub mod Agreement
-pub mod MeanByArea
 pub mod EveryChain
+pub mod MeanByArea
 pub mod Reached
 pub mod Answers

@@ -1,6 +1,6 @@
--- Order 3 of document 02, "mean by area", of every completed table: its two numbers give the mean of the walk's delay over all time of one
--- hyperperiod from the warm-up tick on, the published integral, and not only of the delays at whole ticks.
-use Prim.Native.Nat.{ℕ, _-_, _*_, _≤_}
+-- Order 3 of document 02, "mean by area", of every completed table: its two numbers give the mean of the walk's delay at every time of a hyperperiod,
+-- the published integral divided by H, and not only of the delays at whole ticks. The hyperperiod may begin at any tick from the warm-up tick on.
+use Prim.Native.Nat.{ℕ, _*_, _≤_}
 use native.Mathlib.Omega.{arith}
 use mathlib.Core.Path.{_≡_, refl, sym, ap, _∙_}
 use mathlib.Core.List.{List}
@@ -19,39 +19,51 @@ use Rattle.figures.specs.Figures.{doubledArea, meanOf}
 use Rattle.figures.specs.Integral.{Integral}
 use Rattle.figures.specs.FinerTable.{area-integral}
 use Rattle.maker.specs.declared.Figures.{Figures}
+use Rattle.maker.specs.declared.Made.{Made}
 use Rattle.maker.specs.declared.Made.the-variants.{Whole}
-use Rattle.maker.specs.Making.{Makes}
+use Rattle.maker.specs.Making.{figuresOf, Makes}
 use Rattle.agreement.specs.ReadsAsWalk.{table-walk}
-use Rattle.agreement.specs.MadeTable.{Completed, done, made-anchors, made-first, made-well-formed}
+use Rattle.agreement.specs.MadeTable.{made-anchors, made-first, made-well-formed}
+use Rattle.agreement.specs.Agreement.{held}
+use Rattle.agreement.specs.EveryChain.{Asked, anchorCount, every-chain}
 
--- Twice the integral of the walk's delay over a hyperperiod from the warm-up tick on, and twice H: the call answers them.
+-- The call answers twice the integral of the walk's delay over a hyperperiod, whichever it is from the warm-up tick on, and twice H.
 pub record MeanIsIntegral (c : Chain) (starts latencies : List ℕ) (f : Figures) : Type 0 where
-  pub area : ℕ
-  pub answered : meanOf starts latencies (f .anchors) (f .hyperperiod) ≡ Doubled area (2 * f .hyperperiod)
-  pub integral : Integral (delayTimed (tasksOf c)) (f .tick .0) (f .hyperperiod) area
+  pub doubled : ℕ
+  pub answered : meanOf starts latencies (f .anchors) (f .hyperperiod) ≡ Doubled doubled (2 * f .hyperperiod)
+  pub integral : (t : ℕ) → f .tick .0 ≤ t → Integral (delayTimed (tasksOf c)) (delayAt (tasksOf c)) t (f .hyperperiod) doubled
 
-module _ (c : Chain) (twelve : length (c .tasks) ≡ 12) (p : ℕ) (s v s′ v′ : List ℕ) (f : Figures) (makes : Makes c p s v s′ v′ (Whole f)) where
-  held : Completed c p (length s) (length v) f
-  held = done c twelve p s v s′ v′ f makes
+module _ (c : Chain) (twelve : length (c .tasks) ≡ 12) (p : ℕ) (s v s′ v′ : List ℕ) where
+  module _ (f : Figures) (makes : Makes c p s v s′ v′ (Whole f)) where
+    abbrev made : List Anchor
+    made = anchors s′ v′ (f .anchors)
 
-  abbrev made : List Anchor
-  made = anchors s′ v′ (f .anchors)
+    formed : Formed (f .hyperperiod) made
+    formed =
+        let test = wellFormed s′ v′ (f .anchors) (f .hyperperiod) in
+        well-formed-laws s′ v′ (f .anchors) (f .hyperperiod) (well s′ v′ (f .anchors) (f .hyperperiod) test refl (made-well-formed c twelve p s v s′ v′ f makes))
 
-  formed : Formed (f .hyperperiod) made
-  formed = well-formed-laws s′ v′ (f .anchors) (f .hyperperiod) (well s′ v′ (f .anchors) (f .hyperperiod) (wellFormed s′ v′ (f .anchors) (f .hyperperiod)) refl (made-well-formed c twelve p s v s′ v′ f makes))
+    first : firstStart made ≡ f .tick .0
+    first = ap firstStart (made-anchors c twelve p s v s′ v′ f makes) ∙ made-first c twelve p s v s′ v′ f makes ∙ sym (held c twelve p s v s′ v′ f makes .tick)
 
-  first : firstStart made ≡ f .tick .0
-  first = ap firstStart (made-anchors c twelve p s v s′ v′ f makes) ∙ made-first c twelve p s v s′ v′ f makes ∙ sym (held .tick)
+    -- at whole ticks the table gives the walk's delay
+    same : (t : ℕ) → firstStart made ≤ t → delayAt (tasksOf c) t ≡ table.delayAt (f .hyperperiod) made t
+    same t h =
+        let k = held c twelve p s v s′ v′ f makes in
+        rw (made-anchors c twelve p s v s′ v′ f makes, k .hyper) (sym (table-walk (tasksOf c) (k .sound) t (omega (arith, k .tick, first))))
 
-  -- at whole ticks the table gives the walk's delay
-  same : (t : ℕ) → firstStart made ≤ t → delayAt (tasksOf c) t ≡ table.delayAt (f .hyperperiod) made t
-  same t h =
-      rw (made-anchors c twelve p s v s′ v′ f makes, held .hyper) (sym (table-walk (tasksOf c) (held .sound) t (omega (arith, held .tick, first))))
+    pub mean-is-integral : MeanIsIntegral c s′ v′ f
+    unfolding meanOf
+    mean-is-integral =
+        let falls = delay-falls (tasksOf c) (held c twelve p s v s′ v′ f makes .sound) in
+        record {
+          doubled = doubledArea (f .hyperperiod) made;
+          answered = rw (made-well-formed c twelve p s v s′ v′ f makes);
+          integral = λ t h. area-integral (f .hyperperiod) made formed (delayTimed (tasksOf c)) (delayAt (tasksOf c)) (λ n u i a b. falls n u i b) same t (omega (arith, first));
+        }
 
-  pub mean-is-integral : MeanIsIntegral c s′ v′ f
-  unfolding meanOf
-  mean-is-integral = record {
-    area = doubledArea (f .hyperperiod) made;
-    answered = rw (made-well-formed c twelve p s v s′ v′ f makes);
-    integral = rw (← first) (area-integral (f .hyperperiod) made formed (delayTimed (tasksOf c)) (λ n t i h k. delay-falls (tasksOf c) (held .sound) n t i k ∙ ap (λ (d : ℕ). n * d - i) (same t h)));
-  }
+  -- Of every accepted chain, every place of it and every two lists that hold its anchors.
+  pub every-mean : (h : ℕ) (r : Made) → Asked c p h (length s) (length v) → anchorCount c p h ≤ length s → Makes c p s v s′ v′ r → MeanIsIntegral c s′ v′ (figuresOf c p h)
+  every-mean h r asked enough makes =
+      let whole : r ≡ Whole (figuresOf c p h) = every-chain c twelve h p s v s′ v′ r asked enough makes .completed in
+      mean-is-integral (figuresOf c p h) (rw whole at makes)

@@ -1,6 +1,6 @@
 -- Demand 3 of the calls for C, from their own contracts: from code 0 of mo_make_table, mo_read_table gives at every tick what mo_delay gives (`table-is-walk-for-c`),
 -- two cuts leave the same entries below g (`cuts-agree-for-c`), and mo_greatest's latency is the greatest delay of mo_delay and 1 + the greatest age of mo_age
--- (`greatest-for-c`). When mo_make_table answers 0 is `completes-for-c`. And mo_mean's two numbers give the mean of the walk's delay over all time of a hyperperiod (`mean-for-c`).
+-- (`greatest-for-c`). When mo_make_table answers 0 is `completes-for-c`. And mo_mean's two numbers give the mean of the walk's delay at every time of a hyperperiod (`mean-for-c`).
 use Prim.Native.Nat.{ℕ, _+_, _*_, _/_, _≤_, _<_}
 use native.Mathlib.Omega.{arith}
 use mathlib.Core.Path.{_≡_, sym, ap, _∙_}
@@ -66,6 +66,11 @@ pub record GreatestForC (c : Chain) (latency : ℕ) : Type 0 where
   pub age-within : (z code age : ℕ) → GivesAge c z code age → code ≡ 0 → 1 + age ≤ latency
   pub age-at : ℕ
   pub age-meets : (code age : ℕ) → GivesAge c age-at code age → (code ≡ 0) × (1 + age ≡ latency)
+
+-- The mean by area: twice the integral of the walk's delay over h ticks, from any tick on that is not before the warm-up tick, and twice h.
+pub record MeanForC (c : Chain) (from h area ticks : ℕ) : Type 0 where
+  pub integral : (t : ℕ) → from ≤ t → Integral (delayTimed (tasksOf c)) (delayAt (tasksOf c)) t h area
+  pub doubled-ticks : ticks ≡ 2 * h
 
 module _ (tasks : List ℕ) (places : ℕ) where
   abbrev c : Chain
@@ -150,17 +155,17 @@ module _ (tasks : List ℕ) (places : ℕ) where
           },
         )
 
-    -- The mean by area: twice the integral of the walk's delay over h ticks from the warm-up tick on, and twice h.
-    pub mean-for-c : (code′ area ticks : ℕ) → GivesMean s′ v′ (count figures) (hyper figures) code′ area ticks
-        → (code′ ≡ 0) × Integral (delayTimed (tasksOf c)) (tick figures) (hyper figures) area × (ticks ≡ 2 * hyper figures)
+    pub mean-for-c : (code′ area ticks : ℕ) → GivesMean s′ v′ (count figures) (hyper figures) code′ area ticks → (code′ ≡ 0) × MeanForC c (tick figures) (hyper figures) area ticks
     mean-for-c code′ area ticks g =
         let m = mean-is-integral c twelve p s v s′ v′ (done .given) (done .makes) in
-        let n : (code′ ∷ area ∷ ticks ∷ []) ≡ 0 ∷ m .area ∷ (2 * done .given .hyperperiod) ∷ []
+        let n : (code′ ∷ area ∷ ticks ∷ []) ≡ 0 ∷ m .doubled ∷ (2 * done .given .hyperperiod) ∷ []
         = g ∙ ap (λ (x : ℕ). meanNumbers (meanOf s′ v′ x (hyper figures))) (done .anchors)
         ∙ ap (λ (x : ℕ). meanNumbers (meanOf s′ v′ (done .given .anchors) x)) (done .hyperperiod) ∙ ap meanNumbers (m .answered) in
-        let e : area ≡ m .area = ap (λ (l : List ℕ). getD l 1 0) n in
-        let k : ticks ≡ 2 * done .given .hyperperiod = ap (λ (l : List ℕ). getD l 2 0) n in
-        (ap (λ (l : List ℕ). getD l 0 0) n, rw (e, done .from, done .hyperperiod) (m .integral), omega (arith, k, done .hyperperiod))
+        let e : area ≡ m .doubled = ap (λ (l : List ℕ). getD l 1 0) n in
+        let k : ticks ≡ 2 * done .given .hyperperiod = ap (λ (l : List ℕ). getD l 2 0) n in (
+          ap (λ (l : List ℕ). getD l 0 0) n,
+          record { integral = λ t h. rw (e, done .hyperperiod) (m .integral t (omega (arith, done .from))); doubled-ticks = omega (arith, k, done .hyperperiod) },
+        )
 
   pub cuts-agree-for-c : (p q : ℕ) (s v : List ℕ) (code : ℕ) (s′ v′ figures : List ℕ) → GivesTable c p s v code s′ v′ figures → code ≡ 0
       → (x y : List ℕ) (code″ : ℕ) (x′ y′ figures″ : List ℕ) → GivesTable c q x y code″ x′ y′ figures″ → code″ ≡ 0

@@ -15,10 +15,7 @@ use Rattle.figures.specs.Ticks.{ticks, total}
 use Rattle.figures.specs.Figures.{delaySum, doubledArea}
 use Rattle.figures.specs.Folding.{adding, total-ticks}
 use Rattle.figures.specs.ByAnchors.{segments, table-ticks}
-
--- Twice the area of a tick with delay v: v at its beginning, and v - 1, which the delay nears at its end.
-abbrev pub tickArea : ℕ → ℕ
-tickArea v = v + (v - 1)
+use Rattle.figures.specs.Integral.{tickArea, tick-areas, falling}
 
 -- Twice the area of an anchor with latency v over d ticks: source 002, equation 26.
 abbrev pub area : ℕ → ℕ → ℕ
@@ -28,12 +25,6 @@ abbrev pub addArea : ℕ → ℕ → ℕ → ℕ
 addArea z d v = z + area d v
 
 -- ---- tick by tick
-
--- n ticks of any figure that is at least 1
-tick-areas : (f : ℕ → ℕ) (n s : ℕ) → ((t : ℕ) → s ≤ t → t < s + n → 1 ≤ f t) → total (λ t. tickArea (f t)) s n + n ≡ 2 * total f s n
-unfolding total
-tick-areas f zero s h = omega arith
-tick-areas f (suc n) s h = omega (arith, h s (omega arith) (omega arith), tick-areas f n (suc s) (λ t k l. h t (omega arith) (omega arith)))
 
 module _ (H : ℕ) (l : List Anchor) (f : Formed H l) where
   -- every delay is at least 1
@@ -54,12 +45,6 @@ module _ (H : ℕ) (l : List Anchor) (f : Formed H l) where
   area-whole = omega (arith, by-ticks)
 
 -- ---- anchor by anchor
-
--- n figures that fall by one from n + c
-pub falling : (v n k c : ℕ) → v ≡ k + n + c → 2 * total (λ i. v - i) k n ≡ n * (n + c + (c + 1))
-unfolding total
-falling v zero k c e = omega arith
-falling v (suc n) k c e = omega (arith, falling v n (suc k) c (omega arith))
 
 area-exact : (z d v : ℕ) → d < v → ticks (adding tickArea) (λ i. v - i) 0 d z ≡ addArea z d v
 area-exact z d v h =

@@ -25,7 +25,7 @@ unfoldable pub delaySum : ℕ → List Anchor → ℕ
 delaySum H l = total (delayAt H l) (firstStart l) H
 
 -- Mean by area, the first of its two numbers: twice the sum at whole ticks less H. That it is twice the area under the delay, which falls
--- within each tick, is `mean-integral` in FinerTable. The second is twice H.
+-- within each tick, is `mean-of-all` in FinerTable. The second is twice H.
 unfoldable pub doubledArea : ℕ → List Anchor → ℕ
 doubledArea H l = 2 * delaySum H l - H
 

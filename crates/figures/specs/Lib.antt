@@ -2,10 +2,10 @@ pub mod Ticks
 pub mod Figures
 pub mod Folding
 pub mod ByAnchors
+pub mod Integral
 pub mod Area
 pub mod Gathering
 pub mod LongestRun
 pub mod Exceeding
 pub mod EveryBound
-pub mod Integral
 pub mod FinerTable

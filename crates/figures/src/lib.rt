@@ -55,22 +55,22 @@ fn smaller(a: u64, b: u64) -> u64
     if a < b { a } else { b }
 }
 
-// What a pass over the anchors gathers.
+// What a pass over the anchors gathers; the area is doubled.
 struct Gathered {
     greatest: u64,
     low: u64,
     area: u64,
 }
 
-// One anchor more: latency v over d ticks, in which the delay falls from v to v - d. Twice the area below it is added.
+// One anchor more: latency v over d ticks, in which the delay falls from v and nears v - d. Twice the area under the delay is added.
 fn with_anchor(m: Gathered, d: u64, v: u64) -> Gathered
     requires { ⌜ (d < v) × (v ≤ latencyLimit) × (m .area ≤ hyperLimit * (2 * latencyLimit)) ⌝ }
     ensures { λ r. ⌜ r ≡ withAnchor m d v ⌝ }
 {
     let greatest = larger(m.greatest, v);
-    let end = v - d;
-    let low = smaller(m.low, end);
-    let area = m.area + d * (v + end);
+    let limit = v - d;
+    let low = smaller(m.low, limit);
+    let area = m.area + d * (v + limit);
     Gathered {
         greatest,
         low,

@@ -1,6 +1,6 @@
 -- "Table and walk must agree chain by chain" (order 1 of document 02): the third demand of every chain of every schedule, of the analyses from a schedule.
 -- The table that making gives of chain n is read at every tick as walking chain n gives it (`table-is-walk-from`); its greatest latency is the greatest delay of walking and 1 + the greatest age of ageing chain n
--- (`greatest-from`); two cuts give the same anchors (`cuts-agree-from`); its mean by area is that of the walk over all time (`mean-from`). With no premise on what making answers: `every-chain-from`, `every-two-cuts-from`.
+-- (`greatest-from`); two cuts give the same anchors (`cuts-agree-from`); its mean by area is that of walking chain n at every time of a hyperperiod (`mean-from`). With no premise on what making answers: `every-chain-from`, `every-two-cuts-from`.
 use Prim.Native.Nat.{ℕ, suc, _≤_}
 use native.Mathlib.Omega.{arith}
 use native.Mathlib.Decide.{decLt}
@@ -104,6 +104,7 @@ module _ (s : Schedule) (a : Arrays s) (n : ℕ) where
     pub greatest-from : SameGreatestFrom s n starts′ latencies′ f
     greatest-from = same-from completed-chosen starts′ latencies′ f (greatest-is-delay-and-age (chainAt s n) (chosen-twelve s n a completed-chosen) p starts latencies starts′ latencies′ f made)
 
+    -- The mean by area, of the walk's delay at every time of a hyperperiod.
     pub mean-from : MeanIsIntegral (chainAt s n) starts′ latencies′ f
     mean-from = mean-is-integral (chainAt s n) (chosen-twelve s n a completed-chosen) p starts latencies starts′ latencies′ f made
 

@@ -1,4 +1,4 @@
--- Document 01, program `chainreport`: the text of a table and its figures, and the line of a refusal.
+-- Document 01, program `chainreport`, with the mean of order 3 of document 02: the text of a table and its figures, and the line of a refusal.
 use Prim.Native.Nat.{ℕ, _*_}
 use mathlib.Core.List.{List, [], _∷_, _++_}
 use Rattle.refusal.specs.declared.Refusal.{Refusal}
@@ -17,13 +17,13 @@ unfoldable pub anchorLines : List Anchor → List ℕ
 anchorLines [] = []
 anchorLines (a ∷ l) = line (ascii "a") (a .start ∷ a .latency ∷ []) ++ anchorLines l
 
+-- The mean by area: its two numbers.
+unfoldable pub meanText : ℕ → List Anchor → List ℕ
+meanText H l = line (ascii "mean") (doubledArea H l ∷ 2 * H ∷ [])
+
 -- Warm-up tick, H, g;
 unfoldable pub headText : Figures → List ℕ
 headText f = line (ascii "warm") (f .tick .0 ∷ []) ++ (line (ascii "hyper") (f .hyperperiod ∷ []) ++ line (ascii "anchors") (f .anchors ∷ []))
-
--- mean, which has been by area since order 3 of document 02: its two numbers;
-unfoldable pub meanText : ℕ → List Anchor → List ℕ
-meanText H l = line (ascii "mean") (doubledArea H l ∷ 2 * H ∷ [])
 
 -- greatest, low, mean;
 unfoldable pub figuresText : ℕ → List Anchor → List ℕ

@@ -4,7 +4,7 @@ use Prim.Native.Nat.{ℕ, zero, suc, _+_, _-_, _*_, _≤_, _<_}
 use native.Mathlib.Nat.{mul-zero, mul-sub, mul-le-mul-left, le-of-mul-le-mul-left}
 use native.Mathlib.Decide.{decLe}
 use native.Mathlib.Omega.{arith}
-use mathlib.Core.Path.{_≡_, refl, sym, ap, _∙_}
+use mathlib.Core.Path.{_≡_, refl, ap, _∙_}
 use mathlib.Core.List.{List, map}
 use lib.ListN.{getD, length-map, List·getD-map}
 use Rattle.task.specs.declared.Task.{Task}
@@ -14,6 +14,7 @@ use Rattle.task.specs.LinkLaws.{after-less, link-forward}
 use Rattle.chain.specs.Chains.{zeroTask, at, lastPlace, forwardBy, walk}
 use Rattle.chain.specs.Checks.{Sound}
 use Rattle.timing.specs.Delay.{delayAt}
+use Rattle.timing.specs.WarmRanges.{walk-late, press-late}
 
 abbrev pub finerTask : ℕ → Task → Task
 finerTask n a = record { period = n * a .period; duration = n * a .duration; phase = n * a .phase }
@@ -31,13 +32,6 @@ at-finer n l p =
     ap (λ (a : Task). getD (finerChain n l) p a) z ∙ List·getD-map (finerTask n) l p zeroTask
 
 module _ (n : ℕ) (pos : 1 ≤ n) where
-  -- a job reads and writes at n times its ticks
-  read-finer : (a : Task) (j : ℕ) → readOf (finerTask n a) j ≡ n * readOf a j
-  read-finer a j = omega arith
-
-  write-finer : (a : Task) (j : ℕ) → writeOf (finerTask n a) j ≡ n * writeOf a j
-  write-finer a j = omega arith
-
   period-finer : (a : Task) → 1 ≤ a .period → 1 ≤ finerTask n a .period
   period-finer a h = omega (arith, mul-le-mul-left n h)
 
@@ -74,7 +68,7 @@ module _ (n : ℕ) (pos : 1 ≤ n) where
       whole j l = elim (decLe (readOf b j) t) [ yes k ↦ k | no k ↦ omega (arith, mul-le-mul-left {m = t + 1} {n = readOf b j} n (omega arith)) ]
 
 -- Within each tick the delay falls by one: i n-ths of a tick later it is i n-ths less.
-pub delay-falls : (l : List Task) → Sound l → (n t i : ℕ) → i < n → delayTimed l n (n * t + i) ≡ n * delayAt l t - i
+pub delay-falls : (l : List Task) → Sound l → (n t i : ℕ) → i < n → delayTimed l n (n * t + i) + i ≡ n * delayAt l t
 unfolding delayAt
 delay-falls l ok n t i part =
     let pos : 1 ≤ n = omega arith in
@@ -83,4 +77,4 @@ delay-falls l ok n t i part =
     let j : ℕ = earliestAfter (at l 0) t in
     let w : ℕ = writeOf (at l (lastPlace l)) (walk l j) in
     rw (q, at-finer n l 0, at-finer n l (lastPlace l), press-finer n pos (at l 0) (some 0 (omega arith)) t i part, walk-finer n pos l 0 (lastPlace l) j some)
-    (omega (arith, mul-sub n w t))
+    (omega (arith, mul-sub n w t, mul-le-mul-left {m = t + 1} {n = w} n (omega (arith, walk-late l ok j, press-late l ok t))))

@@ -8,8 +8,8 @@ use Rattle.figures.proofs.with_anchor.Tie as tie
 larger-requires : tie.Need-larger-requires
 larger-requires c κs = search needs
 
-sub-end : tie.Need-sub-end
-sub-end c = search needs
+sub-limit : tie.Need-sub-limit
+sub-limit c = search needs
 
 smaller-requires : tie.Need-smaller-requires
 smaller-requires c κs = search needs
@@ -29,4 +29,4 @@ returns c = rw (c .before .before .larger .ensures, c .before .smaller .ensures)
 pub with-anchor-spec : {M : Type 1} → statement M
 with-anchor-spec =
     tie.close
-    (tie.spec larger-requires sub-end smaller-requires add-area mul-area add-area-2 returns)
+    (tie.spec larger-requires sub-limit smaller-requires add-area mul-area add-area-2 returns)
