@@ -2,7 +2,7 @@
 -- the published integral divided by H, and not only of the delays at whole ticks. The hyperperiod may begin at any tick from the warm-up tick on.
 use Prim.Native.Nat.{ℕ, _*_, _≤_}
 use native.Mathlib.Omega.{arith}
-use mathlib.Core.Path.{_≡_, refl, sym, ap, _∙_}
+use mathlib.Core.Path.{_≡_, sym, ap, _∙_}
 use mathlib.Core.List.{List}
 use lib.ListN.{length}
 use Rattle.chain.specs.declared.Chain.{Chain}
@@ -11,9 +11,8 @@ use Rattle.timing.specs.Delay.{delayAt}
 use Rattle.timing.specs.FinerClock.{delayTimed, delay-falls}
 use Rattle.table.specs.Anchors.{Anchor, anchors, firstStart}
 use Rattle.table.specs.Reading as table
-use Rattle.table.specs.WellFormed.{wellFormed}
 use Rattle.table.specs.Segments.{Formed}
-use Rattle.table.specs.BothWays.{well, well-formed-laws}
+use Rattle.table.specs.BothWays.{well-formed-iff, well-formed-laws}
 use Rattle.figures.specs.declared.Mean.the-variants.{Doubled}
 use Rattle.figures.specs.Figures.{doubledArea, meanOf}
 use Rattle.figures.specs.Integral.{Integral}
@@ -40,8 +39,8 @@ module _ (c : Chain) (twelve : length (c .tasks) ≡ 12) (p : ℕ) (s v s′ v�
 
     formed : Formed (f .hyperperiod) made
     formed =
-        let test = wellFormed s′ v′ (f .anchors) (f .hyperperiod) in
-        well-formed-laws s′ v′ (f .anchors) (f .hyperperiod) (well s′ v′ (f .anchors) (f .hyperperiod) test refl (made-well-formed c twelve p s v s′ v′ f makes))
+        let w = well-formed-iff s′ v′ (f .anchors) (f .hyperperiod) .0 (made-well-formed c twelve p s v s′ v′ f makes) in
+        well-formed-laws s′ v′ (f .anchors) (f .hyperperiod) w
 
     first : firstStart made ≡ f .tick .0
     first = ap firstStart (made-anchors c twelve p s v s′ v′ f makes) ∙ made-first c twelve p s v s′ v′ f makes ∙ sym (held c twelve p s v s′ v′ f makes .tick)
