@@ -81,7 +81,7 @@ static void check_agreement(void)
     }
 }
 
-/* The mean of a chain's table, cut at its first place. */
+/* The mean of a chain's table, cut at its first place, which has at most 28 jobs in a hyperperiod. */
 static void mean(const char *what, const uint64_t *tasks, size_t places, uint64_t area, uint64_t ticks)
 {
     static uint64_t many_starts[28], many_latencies[28];
