@@ -147,6 +147,18 @@ def making(ours, r, factor, compare):
 
 
 @group
+def making_far_apart(ours, r, factor, compare):
+    """making where periods differ much, at every cut with at most 3,000 partitions"""
+    for _ in range(int(150 * factor)):
+        tasks = inputs.far_chain(r)
+        numbers, h = lent(r, tasks), math.lcm(*[t for t, _, _ in tasks])
+        for p in range(1, len(tasks) + 1):
+            walked = h // tasks[p - 1][0]
+            if walked <= 3000:
+                compare_making(ours, r, tasks, numbers, p, (r.choice([walked, r.randint(0, walked)]),) * 2, compare)
+
+
+@group
 def making_refused(ours, r, factor, compare):
     """making refused: chains, places and lists"""
     for _ in range(int(2000 * factor)):

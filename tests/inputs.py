@@ -280,6 +280,23 @@ def cut_chain(r):
             return tasks
 
 
+# Periods that differ much, at the ends of their limits, or on both sides of 1,024, where the step takes another power of two. In the last ones short periods
+# stand between long ones, so that one job of a place is many of its neighbour.
+FAR_APART = [(1, 1000, 1999), (2, 1, 1000, 1999), (5, 59999, 2, 40), (1024, 1025), (1023, 1024, 1), (1025, 1026, 2), (999983, 60), (1000000, 59, 3), (999999, 7, 1), (7744, 7747), (1999, 1000, 1, 2, 3, 4, 5, 6, 8, 10, 12, 15), (3779, 7558, 2, 1, 3, 6)]
+
+
+def far_chain(r):
+    """A chain with periods that differ much, in any order, also with a place more for each of some divisors of its hyperperiod."""
+    periods = list(r.choice(FAR_APART))
+    h = math.lcm(*periods)
+    more = [t for t in (1, 2, 3, 5, 60, 1000, 1024, 1025, 100000, 1000000) if h % t == 0]
+    periods += [r.choice(more) for _ in range(r.choice([0, 0, 1, 3]))]
+    periods = periods[:12]
+    if r.random() < 0.7:
+        r.shuffle(periods)
+    return [(t, r.choice([1, t, r.randint(1, t), r.randint(1, 4000000), 4000000]), r.choice([0, r.randint(0, t - 1), r.randint(0, 1000000), 1000000])) for t in periods]
+
+
 def wide_window_chain(r):
     """A chain whose first place has up to some thousand jobs in a hyperperiod, more than a window holds."""
     while True:

@@ -1,7 +1,8 @@
 -- What holds at each return of `judge` and `make_table`, and what an accepted making has.
-use Prim.Native.Nat.{ℕ, _+_, _-_, _/_, _≤_, _<_}
+use Prim.Native.Nat.{ℕ, _+_, _-_, _*_, _/_, _≤_, _<_}
 use native.Mathlib.Omega.{arith}
-use native.Mathlib.Nat.{div-mul-le-self}
+use native.Mathlib.Decide.{decLe}
+use native.Mathlib.Nat.{div-mul-le-self, div-le-self}
 use mathlib.Core.Path.{_≡_, refl, sym, ap, _∙_}
 use mathlib.Core.Bool.{Bool, true, false, cond, _&&_}
 use mathlib.Core.List.{List, []}
@@ -22,12 +23,15 @@ use Rattle.chain.specs.Flat.{tasksIn, in-count}
 use Rattle.chain.specs.StandsFor.{StandsFor}
 use Rattle.timing.specs.WarmUp.{warmAt, warmTick}
 use Rattle.timing.specs.WarmRanges.{warm-range}
-use Rattle.partition.specs.Partitions.{anchorsOf}
+use Rattle.chain.specs.Multiples.{hyper-times, hyper-pos}
+use Rattle.chain.proofs.CheckLaws.{FactsIn}
+use Rattle.partition.specs.Partitions.{startOf, anchorsOf}
+use Rattle.stepping.specs.Moves.{starts-again}
 use Rattle.maker.specs.declared.Count.{Count}
 use Rattle.maker.specs.declared.Figures.{Figures}
 use Rattle.maker.specs.declared.Made.{Made}
 use Rattle.maker.specs.declared.Made.the-variants.{Whole, Short, Refused}
-use Rattle.maker.specs.Turn.{Filled}
+use Rattle.maker.specs.Turn.{Filled, Fills}
 use Rattle.maker.specs.Making.{afterChecks, judged, figuresOf, madeAfter, writtenAfter, told, toldWith, toldAfter, startsOf, latenciesOf, overlay, Makes, MakesFor}
 use Rattle.maker.proofs.Lists.{sets-overlay}
 
@@ -93,6 +97,29 @@ pub range-fits : (l : List Task) → Sound l → (p h : ℕ) → p < length l �
 range-fits l ok p h g s =
     let w = ok .each p g in
     omega (arith, warm-range l ok p g, div-mul-le-self h (at l p .period), w .period-max, w .duration-max)
+
+pub warm-tick-small : (l : List Task) → Sound l → warmTick l ≤ 60000000
+unfolding warmTick
+warm-tick-small l ok = warm-range l ok 0 (ok .some)
+
+-- and `fill` has what it needs: the start after the range is a hyperperiod after the warm-up tick
+pub range-fills : (l : List Task) (h places p m n after : ℕ) → FactsIn l h → places ≡ length l → p < length l → m ≡ warmAt l p → n ≡ h / at l p .period → after ≡ warmTick l + h → Fills l places p m n after
+range-fills l h places p m n after f pl g w u a = rw (w, u, a) record {
+  sound = f .sound;
+  places-are = pl;
+  inside = omega (arith, pl);
+  warm = omega arith;
+  some = elim (decLe 1 (h / at l p .period)) [
+    | yes k ↦ k
+    | no k ↦
+        let e : h / at l p .period ≡ 0 = omega arith in
+        let t : h / at l p .period * at l p .period ≡ h = rw (f .hyper) (hyper-times l p g) in
+        absurd (omega (arith, f .hyper, ap (λ (x : ℕ). x * at l p .period) e, t, hyper-pos l (f .sound)))
+  ];
+  few = omega (arith, div-le-self h (at l p .period), f .small);
+  top = range-fits l (f .sound) p h g (f .small);
+  later = sym (ap (λ (x : ℕ). startOf l p (warmAt l p + x / at l p .period)) (f .hyper) ∙ starts-again l (f .sound) p g ∙ ap (λ (x : ℕ). warmTick l + x) (sym (f .hyper)));
+}
 
 -- an answer tells its number, place and figures
 pub tells-so : (c : Chain) (p a : ℕ) (v : Verdict) (r : Made) → r ≡ madeAfter c p a v → told r ≡ toldAfter c p a v

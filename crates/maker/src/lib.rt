@@ -9,13 +9,14 @@ use task::Task;
 use task::Tick;
 ghost use mathlib.Core.Path.{_≡_};
 ghost use lib.ListN.{length, set};
-ghost use Prim.Native.Nat.{_+_, _≤_, _<_};
+ghost use Prim.Native.Nat.{_+_, _-_, _*_, _≤_, _<_};
 ghost use Rattle.task.specs.Jobs.{writeOf};
 ghost use Rattle.chain.specs.Chains.{at};
 ghost use Rattle.chain.specs.Checks.{Sound};
 ghost use Rattle.chain.specs.Flat.{tasksIn};
 ghost use Rattle.timing.specs.WarmUp.{warmAt};
-ghost use Rattle.maker.specs.Turn.{lastEnd, Added, Filled};
+ghost use Rattle.stepping.specs.Standing.{Standing, Reciprocals};
+ghost use Rattle.maker.specs.Turn.{lastEnd, Added, Filled, Begins, Fills};
 ghost use Rattle.maker.specs.Making.{afterChecks, Makes, MakesFor};
 
 // The anchor count g, the warm-up tick x0, the hyperperiod H and the number of partitions walked.
@@ -48,21 +49,20 @@ fn store(list: &mut [u64], i: usize, v: u64)
     }
 }
 
-// One turn: adds the anchor of a partition that is kept and not dropped, and answers the count.
+// One turn: adds the anchor of a partition that is kept and not dropped, and answers the count. `after` is the start of the next partition.
 fn add_anchor(
     here: Partition,
-    next: Partition,
+    after: Tick,
     last: Tick,
     g: usize,
     starts: &mut [u64],
     latencies: &mut [u64],
 ) -> usize
     requires { ⌜ (here .start .0 ≤ here .end .0) × (g ≤ 60000000) ⌝ }
-    ensures { λ r. ⌜ Added here next (last .0) g (now (starts .entry)) (now (latencies .entry)) (now (starts .exit)) (now (latencies .exit)) r ⌝ }
+    ensures { λ r. ⌜ Added here (after .0) (last .0) g (now (starts .entry)) (now (latencies .entry)) (now (starts .exit)) (now (latencies .exit)) r ⌝ }
 {
     let start = here.start;
     let end = here.end;
-    let after = next.start;
     if after.0 == start.0 {
         return g;
     }
@@ -74,42 +74,114 @@ fn add_anchor(
     g + 1
 }
 
-// The end of the kept partition before the next one.
-fn last_end(here: Partition, next: Partition, last: Tick) -> Tick
-    ensures { λ r. ⌜ r .0 ≡ lastEnd here next (last .0) ⌝ }
+// The end of the kept partition before the next one, which starts at `after`.
+fn last_end(here: Partition, after: Tick, last: Tick) -> Tick
+    ensures { λ r. ⌜ r .0 ≡ lastEnd here (after .0) (last .0) ⌝ }
 {
     let start = here.start;
-    let after = next.start;
     if after.0 == start.0 {
         return last;
     }
     here.end
 }
 
-// Walks the n partitions from a job on, and writes the anchors that fit. `tasks` is the flat list of the chain's tasks, which is not copied. Each partition is walked once: the next of one turn is the partition of the following.
-fn fill(
+// Walks the n partitions from `first` on, n - 1 steps, and writes the anchors that fit. Of the partition after them only the start counts, `after`, so no step is taken to it.
+fn walk(
     tasks: &[u64],
+    places: usize,
     p: usize,
-    from: Job,
     n: u64,
+    first: Partition,
+    after: Tick,
+    reciprocals: &[u64],
+    state: &mut [u64],
     starts: &mut [u64],
     latencies: &mut [u64],
 ) -> Count
-    requires { ⌜ (Sound (tasksIn (now tasks))) × (p < length (tasksIn (now tasks))) × (warmAt (tasksIn (now tasks)) p ≤ from .0) × (n ≤ 60000000) × (writeOf (at (tasksIn (now tasks)) p) (from .0 + n + 1) ≤ 1000000000000) ⌝ }
-    ensures { λ r. ⌜ Filled (tasksIn (now (tasks .entry))) p (from .0) n (now (starts .entry)) (now (latencies .entry)) (now (starts .exit)) (now (latencies .exit)) r ⌝ }
+    requires { ⌜ (Begins (tasksIn (now tasks)) places p n first (after .0) (now state)) × Reciprocals (tasksIn (now tasks)) (now reciprocals) ⌝ }
+    ensures { λ r. ⌜ (Filled (tasksIn (now (tasks .entry))) p (first .job .0) n (now (starts .entry)) (now (latencies .entry)) (now (starts .exit)) (now (latencies .exit)) r) × Standing (tasksIn (now (tasks .entry))) p (first .job .0 + (n - 1)) (now (state .exit)) ⌝ }
 {
-    let mut walked: u64 = 0;
+    let mut walked: u64 = 1;
     let mut g: usize = 0;
     let mut last = Tick(0);
-    let mut here = partition::of_job(tasks, p, from);
+    let mut here = first;
     while walked < n {
-        let next = partition::next(tasks, p, here);
-        g = add_anchor(here, next, last, g, starts, latencies);
-        last = last_end(here, next, last);
+        let next = stepping::next(tasks, places, p, reciprocals, state);
+        let start = next.start;
+        g = add_anchor(here, start, last, g, starts, latencies);
+        last = last_end(here, start, last);
         here = next;
         walked += 1;
     }
+    g = add_anchor(here, after, last, g, starts, latencies);
     Count { anchors: g, walked }
+}
+
+// The same, with what stands for the divisions of the steps made first.
+fn walk_by_steps(
+    tasks: &[u64],
+    places: usize,
+    p: usize,
+    n: u64,
+    first: Partition,
+    after: Tick,
+    state: &mut [u64],
+    starts: &mut [u64],
+    latencies: &mut [u64],
+) -> Count
+    requires { ⌜ Begins (tasksIn (now tasks)) places p n first (after .0) (now state) ⌝ }
+    ensures { λ r. ⌜ (Filled (tasksIn (now (tasks .entry))) p (first .job .0) n (now (starts .entry)) (now (latencies .entry)) (now (starts .exit)) (now (latencies .exit)) r) × Standing (tasksIn (now (tasks .entry))) p (first .job .0 + (n - 1)) (now (state .exit)) ⌝ }
+{
+    let mut reciprocals = [0u64; 36];
+    outset::reciprocals_of(tasks, places, &mut reciprocals);
+    walk(
+        tasks,
+        places,
+        p,
+        n,
+        first,
+        after,
+        &reciprocals,
+        state,
+        starts,
+        latencies,
+    )
+}
+
+// Walks the n partitions from a job on, and writes the anchors that fit; a single one, as every harmonic chain has at its longest period, needs no step. `tasks` is the flat list of the chain's tasks, which is not copied; `after` is the start of the partition after the last one.
+fn fill(
+    tasks: &[u64],
+    places: usize,
+    p: usize,
+    from: Job,
+    n: u64,
+    after: Tick,
+    starts: &mut [u64],
+    latencies: &mut [u64],
+) -> Count
+    requires { ⌜ Fills (tasksIn (now tasks)) places p (from .0) n (after .0) ⌝ }
+    ensures { λ r. ⌜ Filled (tasksIn (now (tasks .entry))) p (from .0) n (now (starts .entry)) (now (latencies .entry)) (now (starts .exit)) (now (latencies .exit)) r ⌝ }
+{
+    let mut state = [0u64; 24];
+    let first = outset::first(tasks, places, p, from, &mut state);
+    if n < 2 {
+        let g = add_anchor(first, after, Tick(0), 0, starts, latencies);
+        return Count {
+            anchors: g,
+            walked: 1,
+        };
+    }
+    walk_by_steps(
+        tasks,
+        places,
+        p,
+        n,
+        first,
+        after,
+        &mut state,
+        starts,
+        latencies,
+    )
 }
 
 // The checks of making after the chain's own: 9 and 10. a and b are the lists' lengths.
@@ -149,13 +221,8 @@ pub fn make_table_on(tasks: &[u64], p: usize, starts: &mut [u64], latencies: &mu
     ensures { λ r. ⌜ MakesFor (tasksIn (now (tasks .entry))) p (now (starts .entry)) (now (latencies .entry)) (now (starts .exit)) (now (latencies .exit)) r ⌝ }
 {
     let a = starts.len();
-    let v = judge(
-        chain::check_on(tasks),
-        tasks.len() / 3,
-        p,
-        a,
-        latencies.len(),
-    );
+    let places = tasks.len() / 3;
+    let v = judge(chain::check_on(tasks), places, p, a, latencies.len());
     match v {
         Verdict::Refused(r) => {
             return Made::Refused(r);
@@ -168,7 +235,17 @@ pub fn make_table_on(tasks: &[u64], p: usize, starts: &mut [u64], latencies: &mu
             let first = chain::task_at(tasks, 0);
             let tick = first.read(w);
             let t = chain::task_at(tasks, q);
-            let f = fill(tasks, q, from, h / t.period, starts, latencies);
+            let after = Tick(tick.0 + h);
+            let f = fill(
+                tasks,
+                places,
+                q,
+                from,
+                h / t.period,
+                after,
+                starts,
+                latencies,
+            );
             let figures = Figures {
                 anchors: f.anchors,
                 tick,

@@ -1,4 +1,4 @@
--- A partition of a checked chain's tasks, with the places as the code counts them; no number on its ways is large.
+-- No number on the ways of a partition of a checked chain is large.
 use Prim.Native.Nat.{ℕ, _+_, _-_, _≤_, _<_}
 use native.Mathlib.Omega.{arith}
 use mathlib.Core.Path.{_≡_, refl, sym, ap, _∙_}
@@ -59,27 +59,6 @@ module _ (l : List Task) (ok : Sound l) (p : ℕ) (h : p < length l) where
   -- a job number is at most its write
   pub job-fits : (m : ℕ) → m ≤ writeOf (at l p) m
   job-fits m = omega (arith, job-small (at l p) (here .period-pos) m)
-
--- the tasks and jobs at the ends are values of the code
-module _ (l : List Task) (ok : Sound l) (p m : ℕ) where
-  module _ (a : Task) (j : ℕ) (first : a ≡ at l 0) (way : j ≡ jobOf (backwardBy l 0 (p - 0) m)) where
-    pub start-is : readOf a j ≡ startOf l p m
-    unfolding startOf
-    start-is = let z : p - 0 ≡ p = omega arith in ap (λ (x : Task). readOf x j) first ∙ ap (readOf (at l 0)) way ∙ rw z
-
-    pub start-small : p < length l → writeOf (at l p) (m + 1) ≤ 1000000000000 → readOf a j ≤ 2000000000000
-    start-small h top = omega (arith, start-is, start-near l ok p h m, read-mono (at l p) m (m + 1) (omega arith))
-
-  module _ (n : ℕ) (b : Task) (k : ℕ) (end : n ≡ lastPlace l) (last : b ≡ at l n) (way : k ≡ forwardBy l p (n - p) (m + 1)) where
-    pub end-is : writeOf b k ≡ endOf l p m
-    unfolding endOf
-    end-is = ap (λ (x : Task). writeOf x k) last ∙ ap (writeOf (at l n)) way ∙ ap (λ (x : ℕ). writeOf (at l x) (forwardBy l p (x - p) (m + 1))) end
-
-    pub end-small : p < length l → writeOf (at l p) (m + 1) ≤ 1000000000000 → writeOf b k ≤ 2000000000000
-    end-small h top = omega (arith, end-is, end-near l ok p h m)
-
-  pub job-top : p < length l → writeOf (at l p) (m + 1) ≤ 1000000000000 → m + 1 ≤ 1000000000000
-  job-top h top = omega (arith, job-fits l ok p h (m + 1))
 
 -- a partition is that of its own job
 pub own : (l : List Task) (p m : ℕ) (x : Partition) → IsPartition l p m x → IsPartition l p (x .job .0) x

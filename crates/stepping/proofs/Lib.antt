@@ -1,0 +1,4 @@
+pub mod Advancing
+pub mod Turns
+pub mod Ends
+pub mod Step
