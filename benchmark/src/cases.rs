@@ -6,6 +6,7 @@ use plain::maker::{make_table, Made};
 use plain::schedule::NumberedTask;
 use plain::task::Task;
 use plain::timing::warm_jobs;
+use std::hash::{DefaultHasher, Hash, Hasher};
 use std::hint::black_box;
 
 /// Ticks that a reading, walking, ageing or bookings case goes through in turn.
@@ -202,12 +203,15 @@ pub fn all() -> Vec<Case> {
         &[4, 5, 7, 9, 11, 13, 17, 19],
         &[4, 5, 7, 9, 11, 13, 17, 19, 5, 7, 11, 13],
     ];
+    // The longest period is many times the shortest. The last chain is the worst kind for a step that would subtract one period after another.
+    let apart: [&[u64]; 4] = [&[1, 1000, 1999], &[2, 1, 1000, 1999], &[5, 59_999, 2, 40], &[1999, 1000, 1, 2, 3, 4, 5, 6, 8, 10, 12, 15]];
     // Wat19-C1 and Wat19-C3 of docs/CASE-STUDIES.md.
     let published = [33_000, 400_000, 15_000, 15_000, 5_000];
     let beside = [10_000, 15_000, 15_000, 5_000];
     let mut cases: Vec<Case> = [2, 4, 8, 12].iter().map(|&n| making("harmonic", &doubling(250, n))).collect();
     cases.push(making("published", &published));
     cases.extend(coprime.iter().map(|periods| making("co-prime", periods)));
+    cases.extend(apart.iter().map(|periods| making("far apart", periods)));
     cases.extend([1, 4, 16, 64, 256, 1024].iter().map(|&g| reading(g)));
     for group in ["delay", "age"] {
         cases.extend([2, 4, 8, 12].iter().map(|&n| walking(group, "harmonic", &doubling(250, n))));
@@ -343,6 +347,13 @@ pub fn answers<P: Program>(case: &Case) -> Vec<u64> {
         }
     }
     all
+}
+
+/// A number for everything that a program answers to the case, to compare the answers of two processes.
+pub fn digest(answers: &[u64]) -> u64 {
+    let mut hasher = DefaultHasher::new();
+    answers.hash(&mut hasher);
+    hasher.finish()
 }
 
 /// Whether an answer is a refusal. Every case is meant to be accepted.

@@ -1,16 +1,18 @@
 //! The benchmark: the proved program against plain Rust of the same algorithm and against enumerating ticks, in one run.
 //!
-//!     bench [--quick] [--forms] [--instructions]
+//!     bench [--quick] [--forms] [--instructions] [--no-divider]
 //!
 //! Every program's answers are compared with the proved one's: in full before anything is measured, and by a digest with every sample. The digest
 //! of making has its code and figures, not its lists.
+//! With --no-divider the executable beside this one with `-no-divider` in its name is counted too: the same programs, with each division by a loop.
 //! The last line is 'N passed, M failed': two programs that answer a case alike are one pass.
 mod cases;
 mod enumerate;
 mod programs;
 
 use cases::{Case, Lists};
-use programs::{ByValue, Enumerating, Flat, Plain, Proved};
+use programs::{ByValue, Dividing, Enumerating, Flat, Plain, Proved};
+use std::path::{Path, PathBuf};
 use std::process::Command;
 
 type Repeat = fn(&Case, &mut Lists, usize) -> u64;
@@ -24,10 +26,13 @@ struct Measured {
 
 const PROVED: Measured = Measured { name: "proved", repeat: cases::repeat::<Proved>, answers: cases::answers::<Proved> };
 const PLAIN: Measured = Measured { name: "plain", repeat: cases::repeat::<Plain>, answers: cases::answers::<Plain> };
+const DIVIDING: Measured = Measured { name: "dividing", repeat: cases::repeat::<Dividing>, answers: cases::answers::<Dividing> };
 const ENUMERATING: Measured = Measured { name: "enumerating", repeat: cases::repeat::<Enumerating>, answers: cases::answers::<Enumerating> };
 const BY_VALUE: Measured = Measured { name: "by value", repeat: cases::repeat::<ByValue>, answers: cases::answers::<ByValue> };
 const FLAT: Measured = Measured { name: "flat", repeat: cases::repeat::<Flat>, answers: cases::answers::<Flat> };
-const EVERY: [&Measured; 5] = [&PROVED, &PLAIN, &BY_VALUE, &FLAT, &ENUMERATING];
+const EVERY: [&Measured; 6] = [&PROVED, &PLAIN, &BY_VALUE, &FLAT, &DIVIDING, &ENUMERATING];
+/// What is counted without a divider.
+const WITHOUT: [&Measured; 3] = [&PROVED, &PLAIN, &DIVIDING];
 
 /// How long a run may be.
 struct Limits {
@@ -142,16 +147,16 @@ fn print_row(row: &[String]) {
     println!();
 }
 
-/// Instructions for each call, counted by callgrind in a process of its own. Only what happens in `counted` is collected. None where it is not counted.
-fn instructions(program: &Measured, index: usize, case: &Case) -> Option<f64> {
+/// Instructions for each call, counted by callgrind in a process of its own, of this executable or of that without a divider. Only what happens in
+/// `counted` is collected. None where it is not counted.
+fn instructions(executable: &Path, program: &Measured, index: usize, case: &Case) -> Option<f64> {
     if COUNTED < case.work {
         return None;
     }
     let repeats = if case.work < 100_000 { 256 } else { 1 };
-    let own = std::env::current_exe().ok()?;
     let run = Command::new("valgrind")
         .args(["--tool=callgrind", "--callgrind-out-file=/dev/null", "--toggle-collect=counted"])
-        .arg(own)
+        .arg(executable)
         .args(["--count", program.name, &index.to_string(), &repeats.to_string()])
         .output()
         .ok()?;
@@ -168,13 +173,35 @@ pub fn counted(repeat: Repeat, case: &Case, lists: &mut Lists, repeats: usize) -
     repeat(case, lists, repeats)
 }
 
+fn program_named(name: &str) -> &'static Measured {
+    EVERY.into_iter().find(|program| program.name == name).expect("a program's name")
+}
+
 /// The process that callgrind watches.
 fn count(arguments: &[String]) {
-    let program = EVERY.into_iter().find(|program| program.name == arguments[0]).expect("a program's name");
+    let program = program_named(&arguments[0]);
     let case = &cases::all()[arguments[1].parse::<usize>().expect("a case's number")];
     let repeats = arguments[2].parse().expect("how often");
     let mut lists = Lists::of(case);
     println!("{}", counted(program.repeat, case, &mut lists, repeats));
+}
+
+/// The process that answers a case for another one.
+fn answer(arguments: &[String]) {
+    let case = &cases::all()[arguments[1].parse::<usize>().expect("a case's number")];
+    println!("{}", cases::digest(&(program_named(&arguments[0]).answers)(case)));
+}
+
+/// Whether a program of another executable gives these answers.
+fn answers_alike(executable: &Path, program: &Measured, index: usize, wanted: &[u64]) -> bool {
+    let run = Command::new(executable).args(["--answer", program.name, &index.to_string()]).output();
+    run.is_ok_and(|run| String::from_utf8_lossy(&run.stdout).trim() == cases::digest(wanted).to_string())
+}
+
+/// The executable without a divider, where it is there.
+fn without_divider(own: &Path) -> Option<PathBuf> {
+    let name = format!("{}-no-divider", own.file_name()?.to_str()?);
+    Some(own.with_file_name(name)).filter(|path| path.exists())
 }
 
 fn main() {
@@ -182,7 +209,10 @@ fn main() {
     if arguments.first().is_some_and(|word| word == "--count") {
         return count(&arguments[1..]);
     }
-    let known = ["--quick", "--forms", "--instructions"];
+    if arguments.first().is_some_and(|word| word == "--answer") {
+        return answer(&arguments[1..]);
+    }
+    let known = ["--quick", "--forms", "--instructions", "--no-divider"];
     if let Some(word) = arguments.iter().find(|word| !known.contains(&word.as_str())) {
         eprintln!("bench: {word} is not one of {}", known.join(", "));
         std::process::exit(2);
@@ -190,16 +220,23 @@ fn main() {
     let asked = |word: &str| arguments.iter().any(|given| given == word);
     let limits = if asked("--quick") { QUICK } else { FULL };
     let formed = asked("--forms");
-    let counting = asked("--instructions") && Command::new("valgrind").arg("--version").output().is_ok();
-    if asked("--instructions") && !counting {
+    let countable = (asked("--instructions") || asked("--no-divider")) && Command::new("valgrind").arg("--version").output().is_ok();
+    if (asked("--instructions") || asked("--no-divider")) && !countable {
         println!("valgrind is not there: no instructions are counted");
     }
+    let counting = asked("--instructions") && countable;
+    let own = std::env::current_exe().expect("the path of this program");
+    let without = if asked("--no-divider") && countable { without_divider(&own) } else { None };
 
     let mut passed = 0;
     let mut failed = 0;
     let mut group = "";
     for (index, case) in cases::all().iter().enumerate().filter(|(_, case)| case.work <= limits.work) {
+        let making = case.group == "making";
         let mut programs = vec![&PROVED, &PLAIN];
+        if making {
+            programs.push(&DIVIDING);
+        }
         if formed && case.group != "reading" && case.group != "bookings" {
             programs.extend([&BY_VALUE, &FLAT]);
         }
@@ -208,15 +245,25 @@ fn main() {
         }
         if group != case.group {
             group = case.group;
-            let mut head = vec![group, "proved", "plain", "proved/plain", "lowest to highest", "enum/proved"];
+            let mut head = vec![group, "proved", "plain", "proved/plain", "lowest to highest"];
+            if making {
+                head.push("proved/dividing");
+            }
+            head.push("enum/proved");
             if formed {
                 head.extend(["by value/plain", "flat/plain"]);
             }
             if counting {
                 head.extend(["instr proved", "instr plain", "proved/plain"]);
+                if making {
+                    head.extend(["instr dividing", "proved/dividing"]);
+                }
                 if formed {
                     head.extend(["by value/plain", "flat/plain"]);
                 }
+            }
+            if making && without.is_some() {
+                head.extend(["no div: proved", "plain", "dividing", "proved/plain", "proved/dividing"]);
             }
             println!();
             print_row(&head.iter().map(|word| word.to_string()).collect::<Vec<_>>());
@@ -246,22 +293,40 @@ fn main() {
         let lowest = against_plain.iter().copied().fold(f64::INFINITY, f64::min);
         let highest = against_plain.iter().copied().fold(0.0, f64::max);
         let mut row = vec![case.name.clone(), time_text(median(&times[0])), time_text(median(&times[1])), ratio_text(median(&against_plain)), format!("{} to {}", ratio_text(lowest), ratio_text(highest))];
-        let of = |name: &str, at: usize| match programs.iter().position(|program| program.name == name) {
-            Some(found) => ratio_text(median(&ratios(&times[found], &times[at]))),
-            None => "-".to_string(),
+        let of = |above: &Measured, below: &Measured| {
+            let time = |program: &Measured| programs.iter().position(|one| one.name == program.name).map(|at| &times[at]);
+            time(above).zip(time(below)).map_or("-".to_string(), |(above, below)| ratio_text(median(&ratios(above, below))))
         };
-        row.push(of(ENUMERATING.name, 0));
-        if formed {
-            row.extend([of(BY_VALUE.name, 1), of(FLAT.name, 1)]);
+        if making {
+            row.push(of(&PROVED, &DIVIDING));
         }
+        row.push(of(&ENUMERATING, &PROVED));
+        if formed {
+            row.extend([of(&BY_VALUE, &PLAIN), of(&FLAT, &PLAIN)]);
+        }
+        let number = |value: Option<f64>| value.map_or("-".to_string(), |value| format!("{value:.0}"));
+        let ratio = |above: Option<f64>, below: Option<f64>| above.zip(below).map_or("-".to_string(), |(above, below)| ratio_text(above / below));
         if counting {
-            let count = |program: &Measured| programs.iter().any(|one| one.name == program.name).then(|| instructions(program, index, case)).flatten();
+            let count = |program: &Measured| programs.iter().any(|one| one.name == program.name).then(|| instructions(&own, program, index, case)).flatten();
             let (proved, plain) = (count(&PROVED), count(&PLAIN));
-            let number = |value: Option<f64>| value.map_or("-".to_string(), |value| format!("{value:.0}"));
-            let ratio = |value: Option<f64>| value.zip(plain).map_or("-".to_string(), |(value, plain)| ratio_text(value / plain));
-            row.extend([number(proved), number(plain), ratio(proved)]);
+            row.extend([number(proved), number(plain), ratio(proved, plain)]);
+            if making {
+                let dividing = count(&DIVIDING);
+                row.extend([number(dividing), ratio(proved, dividing)]);
+            }
             if formed {
-                row.extend([ratio(count(&BY_VALUE)), ratio(count(&FLAT))]);
+                row.extend([ratio(count(&BY_VALUE), plain), ratio(count(&FLAT), plain)]);
+            }
+        }
+        if let Some(executable) = without.as_ref().filter(|_| making) {
+            let wrong: Vec<&str> = WITHOUT.iter().filter(|program| !answers_alike(executable, program, index, &wanted)).map(|program| program.name).collect();
+            passed += WITHOUT.len() - wrong.len();
+            failed += wrong.len();
+            if wrong.is_empty() {
+                let [proved, plain, dividing] = WITHOUT.map(|program| instructions(executable, program, index, case));
+                row.extend([number(proved), number(plain), number(dividing), ratio(proved, plain), ratio(proved, dividing)]);
+            } else {
+                println!("{}: without a divider {} answers otherwise", case.name, wrong.join(", "));
             }
         }
         print_row(&row);

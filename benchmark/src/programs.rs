@@ -177,6 +177,35 @@ impl Program for Enumerating {
     }
 }
 
+/// Making as it was before the step; all else is the plain program's.
+pub struct Dividing;
+
+impl Program for Dividing {
+    fn make(chain: &Chain, p: usize, starts: &mut [u64], latencies: &mut [u64], figures: &mut [u64; 4]) -> u64 {
+        give_table(dividing::make_table(&chain.tasks, p, starts, latencies), figures)
+    }
+
+    fn read(table: &Table, t: u64) -> u64 {
+        Plain::read(table, t)
+    }
+
+    fn delay(chain: &Chain, t: u64, out: &mut u64) -> u64 {
+        Plain::delay(chain, t, out)
+    }
+
+    fn age(chain: &Chain, z: u64, out: &mut u64) -> u64 {
+        Plain::age(chain, z, out)
+    }
+
+    fn windows(chain: &Chain, b: u64, k: u64, out: &mut [u64; 2]) -> u64 {
+        Plain::windows(chain, b, k, out)
+    }
+
+    fn bookings(schedule: &Schedule, t: u64, out: &mut [u64; 4]) -> u64 {
+        Plain::bookings(schedule, t, out)
+    }
+}
+
 /// Plain Rust with the chain copied at each call; reading and bookings are the plain program's.
 pub struct ByValue;
 

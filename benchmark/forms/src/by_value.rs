@@ -1,6 +1,9 @@
 //! The chain as a struct of twelve tasks and a count, passed by value from function to function.
 //! rustc would leave the copies out, since no function changes its chain. `received` makes it copy, at the calls where the crates copied while they had this form.
+use plain::anchors::Anchors;
 use plain::maker::{Figures, Made};
+use plain::outset::places_at;
+use plain::stepping::{Place, State};
 use plain::task::Task;
 use plain::windows::most_of;
 use plain::{Refusal, HYPERPERIOD_LIMIT, UPPER_TICK};
@@ -10,12 +13,6 @@ use std::hint::black_box;
 pub struct Chain {
     pub tasks: [Task; 12],
     pub places: usize,
-}
-
-#[derive(Clone, Copy)]
-struct Partition {
-    start: u64,
-    end: u64,
 }
 
 /// A chain that something unknown may look at and change must be a copy.
@@ -171,49 +168,19 @@ pub fn age(c: Chain, z: u64) -> Result<u64, Refusal> {
     Ok(age_ticks(c, z))
 }
 
-fn of_job(c: Chain, p: usize, m: u64) -> Partition {
+fn outset(c: Chain, p: usize, job: u64) -> [Place; 12] {
     received(&c);
-    let n = c.places - 1;
-    let start = c.tasks[0].read(backward(c, 0, p, m).unwrap_or(0));
-    let end = c.tasks[n].write(forward(c, p, n, m + 1));
-    Partition { start, end }
+    places_at(&c.tasks[..c.places], p, job)
 }
 
-fn store(list: &mut [u64], at: usize, value: u64) {
-    if at < list.len() {
-        list[at] = value;
+fn fill(c: Chain, p: usize, from: u64, n: u64, past: u64, anchors: Anchors) -> usize {
+    received(&c);
+    let mut places = outset(c, p, from);
+    let places = &mut places[..c.places];
+    if 1 < n {
+        places.iter_mut().for_each(|place| place.prepare());
     }
-}
-
-fn add_anchor(here: Partition, next: Partition, last: u64, g: usize, starts: &mut [u64], latencies: &mut [u64]) -> usize {
-    if next.start == here.start || here.end == last {
-        return g;
-    }
-    store(starts, g, here.start);
-    store(latencies, g, here.end - here.start);
-    g + 1
-}
-
-fn last_end(here: Partition, next: Partition, last: u64) -> u64 {
-    if next.start == here.start {
-        return last;
-    }
-    here.end
-}
-
-fn fill(c: Chain, p: usize, from: u64, n: u64, starts: &mut [u64], latencies: &mut [u64]) -> (usize, u64) {
-    let mut walked = 0;
-    let mut g = 0;
-    let mut last = 0;
-    let mut here = of_job(c, p, from);
-    while walked < n {
-        let following = of_job(c, p, from + walked + 1);
-        g = add_anchor(here, following, last, g, starts, latencies);
-        last = last_end(here, following, last);
-        here = following;
-        walked += 1;
-    }
-    (g, walked)
+    State { places, cut: p, first: c.tasks[0], last: c.tasks[c.places - 1] }.walk(n, past, anchors)
 }
 
 pub fn make_table(c: Chain, p: usize, starts: &mut [u64], latencies: &mut [u64]) -> Made {
@@ -230,9 +197,11 @@ pub fn make_table(c: Chain, p: usize, starts: &mut [u64], latencies: &mut [u64])
     let q = p - 1;
     let jobs = warm_jobs(c);
     let tick = c.tasks[0].read(jobs[0]);
-    let (anchors, walked) = fill(c, q, jobs[q], h / c.tasks[q].period, starts, latencies);
+    let walked = h / c.tasks[q].period;
+    let slots = starts.len();
+    let anchors = fill(c, q, jobs[q], walked, tick + h, Anchors::new(starts, latencies));
     let figures = Figures { anchors, tick, hyperperiod: h, walked };
-    if anchors <= starts.len() {
+    if anchors <= slots {
         Made::Whole(figures)
     } else {
         Made::Short(figures)

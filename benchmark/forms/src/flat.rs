@@ -1,5 +1,7 @@
 //! The chain as the flat list T, D, F, T, D, F, .., lent from function to function, which are those of the crates.
+use plain::anchors::Anchors;
 use plain::maker::{Figures, Made};
+use plain::stepping::{Place, State};
 use plain::task::Task;
 use plain::windows::most_of;
 use plain::{Refusal, HYPERPERIOD_LIMIT, UPPER_TICK};
@@ -104,23 +106,23 @@ pub fn age(list: &[u64], places: usize, z: u64) -> Result<u64, Refusal> {
     Ok(z - task(list, 0).read(backward(list, 0, n, k).unwrap_or(0)))
 }
 
-#[derive(Clone, Copy)]
-struct Partition {
-    start: u64,
-    end: u64,
-}
-
-fn of_job(list: &[u64], places: usize, p: usize, m: u64) -> Partition {
-    let n = places - 1;
-    let start = task(list, 0).read(backward(list, 0, p, m).unwrap_or(0));
-    let end = task(list, n).write(forward(list, p, n, m + 1));
-    Partition { start, end }
-}
-
-fn store(list: &mut [u64], at: usize, value: u64) {
-    if at < list.len() {
-        list[at] = value;
+fn places_at(list: &[u64], places: usize, p: usize, job: u64) -> [Place; 12] {
+    let mut state = [Place::NONE; 12];
+    state[p] = Place::cut(&task(list, p), job);
+    let mut i = p;
+    while 0 < i {
+        let tick = task(list, i).read(state[i].job);
+        i -= 1;
+        state[i] = Place::back(&task(list, i), tick);
     }
+    let mut k = job + 1;
+    let mut i = p + 1;
+    while i < places {
+        state[i] = Place::on(&task(list, i), task(list, i - 1).write(k));
+        k = state[i].job;
+        i += 1;
+    }
+    state
 }
 
 pub fn make_table(list: &[u64], places: usize, p: usize, starts: &mut [u64], latencies: &mut [u64]) -> Made {
@@ -137,26 +139,17 @@ pub fn make_table(list: &[u64], places: usize, p: usize, starts: &mut [u64], lat
     let q = p - 1;
     let jobs = warm_jobs(list, places);
     let tick = task(list, 0).read(jobs[0]);
-    let n = h / task(list, q).period;
-    let mut walked = 0;
-    let mut anchors = 0;
-    let mut last = 0;
-    let mut here = of_job(list, places, q, jobs[q]);
-    while walked < n {
-        let following = of_job(list, places, q, jobs[q] + walked + 1);
-        if following.start != here.start {
-            if here.end != last {
-                store(starts, anchors, here.start);
-                store(latencies, anchors, here.end - here.start);
-                anchors += 1;
-            }
-            last = here.end;
-        }
-        here = following;
-        walked += 1;
+    let walked = h / task(list, q).period;
+    let slots = starts.len();
+    let mut state = places_at(list, places, q, jobs[q]);
+    let state = &mut state[..places];
+    if 1 < walked {
+        state.iter_mut().for_each(|place| place.prepare());
     }
+    let state = State { places: state, cut: q, first: task(list, 0), last: task(list, places - 1) };
+    let anchors = state.walk(walked, tick + h, Anchors::new(starts, latencies));
     let figures = Figures { anchors, tick, hyperperiod: h, walked };
-    if anchors <= starts.len() {
+    if anchors <= slots {
         Made::Whole(figures)
     } else {
         Made::Short(figures)

@@ -1,16 +1,17 @@
 //! The checks of a chain, its hyperperiod, and the ways forward and backward along its places, counted from 0.
+use crate::division::{quotient, remainder};
 use crate::task::Task;
 use crate::{Refusal, HYPERPERIOD_LIMIT, MOST_PLACES};
 
 fn gcd(mut a: u64, mut b: u64) -> u64 {
     while b != 0 {
-        (a, b) = (b, a % b);
+        (a, b) = (b, remainder(a, b));
     }
     a
 }
 
 pub(crate) fn lcm(a: u64, b: u64) -> u64 {
-    a / gcd(a, b) * b
+    quotient(a, gcd(a, b)) * b
 }
 
 /// The checks 8, 5 and 7; the hyperperiod of an accepted chain.

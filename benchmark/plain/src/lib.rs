@@ -1,10 +1,13 @@
 //! The program of the crates in plain Rust, to measure against: the same checks in the same order, the same algorithms, u64 arithmetic.
 //! A chain is a slice of tasks, one for each place, and is lent, never copied; out of a schedule it is taken once. Nothing here is proved.
+pub mod anchors;
 pub mod bookings;
 pub mod chain;
+pub mod division;
 pub mod maker;
-pub mod partition;
+pub mod outset;
 pub mod schedule;
+pub mod stepping;
 pub mod table;
 pub mod task;
 pub mod timing;

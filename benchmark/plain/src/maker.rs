@@ -1,8 +1,11 @@
 //! Making a table of anchors: one pass over the partitions of a hyperperiod.
+use crate::anchors::Anchors;
 use crate::chain::check;
-use crate::partition::Partition;
+use crate::division::quotient;
+use crate::outset::places_at;
+use crate::stepping::State;
 use crate::task::Task;
-use crate::timing::warm_jobs;
+use crate::timing::{last, warm_jobs};
 use crate::Refusal;
 
 #[derive(Clone, Copy, Debug, PartialEq, Eq)]
@@ -20,36 +23,30 @@ pub enum Made {
     Refused(Refusal),
 }
 
-fn store(list: &mut [u64], at: usize, value: u64) {
-    if let Some(entry) = list.get_mut(at) {
-        *entry = value;
-    }
+/// The partitions of a chain that are to be walked.
+pub struct Round {
+    /// The place of the cut, counted from 0.
+    pub cut: usize,
+    /// The job of the first partition at the cut.
+    pub job: u64,
+    /// How many there are.
+    pub count: u64,
+    /// The start of the partition after the last.
+    pub past: u64,
 }
 
-/// Walks n partitions from a job on and writes the anchors that fit; the anchor count and the number walked.
-fn fill(tasks: &[Task], p: usize, from: u64, n: u64, starts: &mut [u64], latencies: &mut [u64]) -> (usize, u64) {
-    let mut walked = 0;
-    let mut anchors = 0;
-    let mut last_end = 0;
-    let mut here = Partition::of_job(tasks, p, from);
-    for job in from + 1..=from + n {
-        let next = Partition::of_job(tasks, p, job);
-        if next.start != here.start {
-            if here.end != last_end {
-                store(starts, anchors, here.start);
-                store(latencies, anchors, here.end - here.start);
-                anchors += 1;
-            }
-            last_end = here.end;
-        }
-        here = next;
-        walked += 1;
+fn walk(tasks: &[Task], round: Round, anchors: Anchors) -> usize {
+    let mut places = places_at(tasks, round.cut, round.job);
+    let places = &mut places[..tasks.len()];
+    if 1 < round.count {
+        places.iter_mut().for_each(|place| place.prepare());
     }
-    (anchors, walked)
+    State { places, cut: round.cut, first: tasks[0], last: *last(tasks) }.walk(round.count, round.past, anchors)
 }
 
-/// The table of a chain cut at place p, p counted from 1.
-pub fn make_table(tasks: &[Task], p: usize, starts: &mut [u64], latencies: &mut [u64]) -> Made {
+/// The table of a chain cut at place p, p counted from 1, by a walk over its partitions that gives the number of their anchors.
+#[inline]
+pub fn make_table_by(walk: impl Fn(&[Task], Round, Anchors) -> usize, tasks: &[Task], p: usize, starts: &mut [u64], latencies: &mut [u64]) -> Made {
     let h = match check(tasks) {
         Err(refusal) => return Made::Refused(refusal),
         Ok(h) => h,
@@ -60,14 +57,21 @@ pub fn make_table(tasks: &[Task], p: usize, starts: &mut [u64], latencies: &mut 
     if starts.len() != latencies.len() {
         return Made::Refused(Refusal::new(10));
     }
-    let q = p - 1;
+    let cut = p - 1;
     let jobs = warm_jobs(tasks);
     let tick = tasks[0].read(jobs[0]);
-    let (anchors, walked) = fill(tasks, q, jobs[q], h / tasks[q].period, starts, latencies);
+    let walked = quotient(h, tasks[cut].period);
+    let slots = starts.len();
+    let anchors = walk(tasks, Round { cut, job: jobs[cut], count: walked, past: tick + h }, Anchors::new(starts, latencies));
     let figures = Figures { anchors, tick, hyperperiod: h, walked };
-    if anchors <= starts.len() {
+    if anchors <= slots {
         Made::Whole(figures)
     } else {
         Made::Short(figures)
     }
+}
+
+/// The table of a chain cut at place p, p counted from 1.
+pub fn make_table(tasks: &[Task], p: usize, starts: &mut [u64], latencies: &mut [u64]) -> Made {
+    make_table_by(walk, tasks, p, starts, latencies)
 }

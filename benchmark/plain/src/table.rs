@@ -1,4 +1,5 @@
 //! Tables of anchors as two lists: well-formed, and reading at a tick.
+use crate::division::remainder;
 use crate::{Refusal, HYPERPERIOD_LIMIT, UPPER_TICK};
 
 const LATENCY_LIMIT: u64 = 60_000_000;
@@ -46,7 +47,7 @@ pub fn read_at(starts: &[u64], latencies: &[u64], g: usize, h: u64, t: u64) -> R
     if UPPER_TICK < t {
         return Err(Refusal::new(13));
     }
-    let u = first + (t - first) % h;
+    let u = first + remainder(t - first, h);
     let at = anchor_at(&starts[..g], u);
     Ok(latencies[at] - (u - starts[at]))
 }

@@ -1,4 +1,5 @@
 //! Tasks and their jobs: when a job reads and writes, and which job reads or writes around a tick.
+use crate::division::quotient;
 
 #[derive(Clone, Copy, Debug)]
 pub struct Task {
@@ -31,7 +32,7 @@ impl Task {
         if tick <= self.phase {
             return 0;
         }
-        (tick - self.phase - 1) / self.period + 1
+        quotient(tick - self.phase - 1, self.period) + 1
     }
 
     /// The earliest job that reads strictly after a tick.
@@ -40,14 +41,14 @@ impl Task {
         if tick < self.phase {
             return 0;
         }
-        (tick - self.phase) / self.period + 1
+        quotient(tick - self.phase, self.period) + 1
     }
 
     /// The latest job that writes at or before a tick, if there is one.
     #[inline]
     pub fn latest_by(&self, tick: u64) -> Option<u64> {
         let since = tick.checked_sub(self.phase)?.checked_sub(self.duration)?;
-        Some(since / self.period)
+        Some(quotient(since, self.period))
     }
 
     /// Forward over one link.

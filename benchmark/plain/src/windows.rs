@@ -1,5 +1,6 @@
 //! Windows of jobs: the largest number of misses in k successive jobs of the first place, and the earliest job from which there are as many.
 use crate::chain::{check, forward};
+use crate::division::quotient;
 use crate::task::Task;
 use crate::timing::warm_jobs;
 use crate::Refusal;
@@ -54,5 +55,5 @@ pub fn most_misses(tasks: &[Task], bound: u64, k: u64) -> Result<(u64, u64), Ref
         return Err(Refusal::new(15));
     }
     let before = warm_jobs(tasks)[0];
-    Ok(most_of(|job| missed(tasks, bound, job), k, before + 1, before + h / tasks[0].period))
+    Ok(most_of(|job| missed(tasks, bound, job), k, before + 1, before + quotient(h, tasks[0].period)))
 }
