@@ -19,8 +19,8 @@
  *   libcapi_file.a      mo_read_file, mo_write_file, mo_chain_of_schedule
  *   libcapi_bookings.a  mo_bookings
  *   libcapi_report.a    mo_report
- * libcapi_file.a, libcapi_bookings.a and libcapi_report.a need memcpy and memset from the C library, libcapi_windows.a memset; the other
- * four need nothing (`nm -u` on an archive tells; tests/c/run looks).
+ * libcapi_file.a, libcapi_bookings.a and libcapi_report.a need memcpy and memset from the C library, libcapi_maker.a and
+ * libcapi_windows.a memset; the other three need nothing (`nm -u` on an archive tells; tests/c/run looks).
  *
  * The archives are for x86-64, in position-independent code that uses its SSE2 registers. The toolchain compiles for no other processor
  * today: the proofs say nothing of a processor, and the back end that turns proved code into machine code has this one target. On an
@@ -30,9 +30,10 @@
  * Time. mo_read_table and the figures take one to three passes over the g anchors; mo_check, mo_warm_up, mo_delay and mo_age a few over the
  * places; the calls on files one over the bytes.
  * mo_make_table walks h / T partitions, T being the period at the place of the cut, and a partition costs each place once: with h 60,000,000
- * and twelve places 0.04 ms where the longest period, 78,125, is cut at, and 2.8 s at a place of period 1. Cut at the longest period no
- * chain has more than 3,063,060 partitions. mo_windows makes at most 2 * (h / T + k - 1) walks, T being the first place's period: 0.06 ms
- * to 4.7 s for these chains. mo_report makes one table for each chain, cut at the longest period: at most 0.2 s a chain. mo_bookings goes
+ * and twelve places 0.015 ms where the longest period, 78,125, is cut at, and 0.9 s at a place of period 1. Cut at the longest period no
+ * chain has more than 3,063,060 partitions, which take 0.05 s. It divides only before the second partition, some 90 times at twelve places;
+ * from there on a place takes two multiplications and a shift, so it is for processors without a divider too. mo_windows makes at most 2 * (h / T + k - 1) walks, T being the first place's period: 0.06 ms
+ * to 4.7 s for these chains. mo_report makes one table for each chain, cut at the longest period: at most 0.1 s a chain. mo_bookings goes
  * once through the common hyperperiod, from one change of a booking to the next, and a change costs each place of its chain twice: 0.5 s
  * for one place of period 1 beside 768 and 78,125, and at the worst, twelve places of period 1 beside 16, 9, 5, 7, 11, 23 and 47, 10 s.
  * (One run on a server's processor; an instrument's takes longer.) Nothing else that is lent makes a call take long.
@@ -55,7 +56,7 @@ extern "C" {
 #define MO_STACK_WARM_UP 320u
 #define MO_STACK_DELAY 128u
 #define MO_STACK_AGE 128u
-#define MO_STACK_MAKE_TABLE 512u
+#define MO_STACK_MAKE_TABLE 832u
 #define MO_STACK_READ_TABLE 128u
 #define MO_STACK_FIGURES 128u /* each of mo_greatest, mo_low, mo_mean, mo_throughput and mo_exceedance */
 #define MO_STACK_WINDOWS 1216u

@@ -149,7 +149,7 @@ def making(ours, r, factor, compare):
 @group
 def making_far_apart(ours, r, factor, compare):
     """making where periods differ much, at every cut with at most 3,000 partitions"""
-    for _ in range(int(150 * factor)):
+    for _ in range(int(500 * factor)):
         tasks = inputs.far_chain(r)
         numbers, h = lent(r, tasks), math.lcm(*[t for t, _, _ in tasks])
         for p in range(1, len(tasks) + 1):
@@ -252,7 +252,7 @@ def tables(ours, r, factor, compare):
         starts, latencies, h = inputs.small_table(r)
         every = range(max(0, starts[0] - 2), starts[0] + h + 2)
         compare_table(ours, r, (starts, latencies, h), every, 30, compare)
-    for _ in range(int(150 * factor)):
+    for _ in range(int(500 * factor)):
         compare_table(ours, r, inputs.middle_table(r), [], 4, compare)
     for _ in range(int(1000 * factor)):
         compare_table(ours, r, inputs.large_table(r), [], 12, compare)
