@@ -146,16 +146,25 @@ def making(ours, r, factor, compare):
                 compare.same(ours.age(numbers, n, start + latency - 1), ("ok", latency - 1), "greatest age", tasks, p)
 
 
+def longest(periods):
+    return f"longest period {max(periods)}"
+
+
 @group
 def making_far_apart(ours, r, factor, compare):
-    """making where periods differ much, at every cut with at most 3,000 partitions"""
+    """making where periods differ much, at every cut with at most 8,000 partitions"""
     for _ in range(int(500 * factor)):
         tasks = inputs.far_chain(r)
         numbers, h = lent(r, tasks), math.lcm(*[t for t, _, _ in tasks])
         for p in range(1, len(tasks) + 1):
             walked = h // tasks[p - 1][0]
-            if walked <= 3000:
-                compare_making(ours, r, tasks, numbers, p, (r.choice([walked, r.randint(0, walked)]),) * 2, compare)
+            if walked <= 8000:
+                answer, _, _ = compare_making(ours, r, tasks, numbers, p, (r.choice([walked, r.randint(0, walked)]),) * 2, compare)
+                compare.meet(answer)
+                if answer[0] == "ok":
+                    compare.note(longest(t for t, _, _ in tasks))
+    # Of every kind there was a table, so that each of these periods was stepped with.
+    compare.must_meet("ok", 11, *map(longest, inputs.FAR_APART))
 
 
 @group
@@ -252,7 +261,7 @@ def tables(ours, r, factor, compare):
         starts, latencies, h = inputs.small_table(r)
         every = range(max(0, starts[0] - 2), starts[0] + h + 2)
         compare_table(ours, r, (starts, latencies, h), every, 30, compare)
-    for _ in range(int(500 * factor)):
+    for _ in range(int(150 * factor)):
         compare_table(ours, r, inputs.middle_table(r), [], 4, compare)
     for _ in range(int(1000 * factor)):
         compare_table(ours, r, inputs.large_table(r), [], 12, compare)

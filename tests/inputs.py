@@ -282,7 +282,7 @@ def cut_chain(r):
 
 # Periods that differ much, at the ends of their limits, or on both sides of 1,024, where the step takes another power of two. In the last ones short periods
 # stand between long ones, so that one job of a place is many of its neighbour.
-FAR_APART = [(1, 1000, 1999), (2, 1, 1000, 1999), (5, 59999, 2, 40), (1024, 1025), (1023, 1024, 1), (1025, 1026, 2), (999983, 60), (1000000, 59, 3), (999999, 7, 1), (7744, 7747), (1999, 1000, 1, 2, 3, 4, 5, 6, 8, 10, 12, 15), (3779, 7558, 2, 1, 3, 6)]
+FAR_APART = [(1, 1000, 1999), (2, 1, 1000, 1999), (5, 59999, 2, 40), (1024, 1025), (1023, 1024, 1), (1025, 1026, 2), (999983, 60), (1000000, 3, 7), (999999, 7, 1), (7744, 7747), (1999, 1000, 1, 2, 3, 4, 5, 6, 8, 10, 12, 15), (3779, 7558, 2, 1, 3, 6)]
 
 
 def far_chain(r):

@@ -1,8 +1,9 @@
 #!/usr/bin/env python3
 """Order 4 of document 02: the step from one partition to the following one has no division and no remainder.
 
-Looks at the source of the crate `stepping`, and at the compiled call: the loop of mo_make_table in which the step stands may have no
-division instruction, and no call that could hide one. The step is known by its shifts by a variable, which nothing else in the call has.
+Looks at the source of the crate `stepping` and of the few functions outside it that stand in the same loop, and at the compiled calls that make
+tables: the loop in which the step stands may have no division instruction, no widening product, by which compilers divide by constants, and
+no way out of the function that could hide one. The step is known by its shifts by a variable, and its loop is the smallest that has all of them.
 """
 import os
 import re
@@ -10,69 +11,109 @@ import subprocess
 import sys
 
 TOP = os.path.dirname(os.path.dirname(os.path.abspath(__file__)))
-SOURCE = os.path.join(TOP, "crates", "stepping", "src")
+STEP = os.path.join("crates", "stepping", "src", "lib.rt")
+# What else a turn of making's loop over the partitions runs.
+BESIDE = [
+    (os.path.join("crates", "maker", "src", "lib.rt"), ("walk", "add_anchor", "last_end", "store")),
+    (os.path.join("crates", "chain", "src", "lib.rt"), ("task_at",)),
+    (os.path.join("crates", "task", "src", "lib.rt"), ("read", "write")),
+]
+CALLS = [("libcapi_maker.a", "mo_make_table"), ("libcapi_report.a", "mo_report")]
 
 
-def divisions_in_source(folder):
-    """The lines with / or % outside comments, and how many lines were looked at."""
-    found, count = [], 0
-    for name in sorted(os.listdir(folder)):
-        with open(os.path.join(folder, name), encoding="utf-8") as source:
-            for number, line in enumerate(source, 1):
-                count += 1
-                if re.search(r"[/%]", line.split("//")[0]):
-                    found.append(f"{name}:{number}: {line.strip()}")
-    return found, count
+def text_of(path):
+    with open(os.path.join(TOP, path), encoding="utf-8") as source:
+        return source.read()
+
+
+def body_of(text, function):
+    """The function's body, from the first brace that begins a line to the next that ends one at the same depth."""
+    found = re.search(rf"^( *)(?:pub )?fn {function}\(.*?^\1\{{$(.*?)^\1\}}$", text, re.MULTILINE | re.DOTALL)
+    return found.group(2) if found else ""
+
+
+def divisions(text):
+    """The lines with / or % outside comments."""
+    return [line.strip() for line in text.splitlines() if re.search(r"[/%]", line.split("//")[0])]
 
 
 def instructions(archive, function):
     """The function's instructions: (address, name, operands)."""
     listed = subprocess.run(["objdump", "-d", "--no-show-raw-insn", f"--disassemble={function}", archive], check=True, stdout=subprocess.PIPE, text=True).stdout
-    lines = re.findall(r"^ *([0-9a-f]+):\t(?:(?:data16|cs|ds|notrack|bnd|rep|lock) )*(\S+)(?: +(.*))?$", listed, re.MULTILINE)
+    lines = re.findall(r"^ *([0-9a-f]+):\t(?:(?:data16|cs|ds|notrack|bnd|rep|repz|lock) )*(\S+)(?: +(.*))?$", listed, re.MULTILINE)
     return [(int(address, 16), name, operands) for address, name, operands in lines]
 
 
 def followers(listed):
-    """Of each instruction the places in the list to which it can go on. A jump out of the function goes on nowhere."""
+    """Of each instruction the places in the list to which it can go on, and whether it can leave the function for another: by a call, or by a jump out."""
     at = {address: i for i, (address, _, _) in enumerate(listed)}
-    onward = []
+    onward, leaves = [], []
     for i, (_, name, operands) in enumerate(listed):
-        jumps = name.startswith("j")
-        target = re.match(r"([0-9a-f]+) <", operands) if jumps else None
-        if jumps and not target:
-            raise ValueError(f"a jump to an unknown place: {name} {operands}")
-        ways = [at[int(target.group(1), 16)]] if target and int(target.group(1), 16) in at else []
+        ways, out = [], name.startswith("call")
+        if name.startswith("j"):
+            target = re.match(r"([0-9a-f]+) <", operands)
+            place = at.get(int(target.group(1), 16)) if target else None
+            out = place is None
+            ways += [] if out else [place]
         if name not in ("jmp", "ret", "retq", "ud2", "hlt") and i + 1 < len(listed):
             ways.append(i + 1)
         onward.append(ways)
-    return onward
+        leaves.append(out)
+    return onward, leaves
 
 
-def reached(onward, start):
-    """What can come after the start."""
-    seen, left = set(), list(onward[start])
+def reached(onward):
+    """The instructions to which a way from the entry comes; padding between them has none."""
+    seen, left = set(), [0]
     while left:
         i = left.pop()
         if i not in seen:
             seen.add(i)
             left.extend(onward[i])
-    return seen
+    return sorted(seen)
 
 
-def loop_around(onward, i):
-    """The instructions from which one comes back to i and which come after it: the outermost loop that i is in."""
-    backward = [[] for _ in onward]
-    for j, ways in enumerate(onward):
-        for way in ways:
-            backward[way].append(j)
-    return reached(onward, i) & reached(backward, i)
+def dominators(onward, before):
+    """Of each instruction those through which every way from the entry to it goes, as bits of a number."""
+    everything = (1 << len(onward)) - 1
+    found = [1] + [everything] * (len(onward) - 1)
+    changed = True
+    while changed:
+        changed = False
+        for i in reached(onward)[1:]:
+            common = everything
+            for j in before[i]:
+                common &= found[j]
+            common |= 1 << i
+            if common != found[i]:
+                found[i], changed = common, True
+    return found
+
+
+def loops(onward):
+    """The natural loops, each as the set of its instructions."""
+    before = [[] for _ in onward]
+    for i in reached(onward):
+        for way in onward[i]:
+            before[way].append(i)
+    through, found = dominators(onward, before), {}
+    for i in reached(onward):
+        for head in onward[i]:
+            if through[i] >> head & 1:
+                loop, left = found.setdefault(head, {head}), [i]
+                while left:
+                    j = left.pop()
+                    if j not in loop:
+                        loop.add(j)
+                        left.extend(before[j])
+    return list(found.values())
 
 
 def main():
-    archive = sys.argv[1] if len(sys.argv) > 1 else None
-    if archive is None:
-        subprocess.run([os.path.join(TOP, "tests", "archives")], check=True, stdout=subprocess.DEVNULL)
-        archive = os.path.join(TOP, "target", "staticlib", "libcapi_maker.a")
+    given = [(sys.argv[1], "mo_make_table")] if len(sys.argv) > 1 else None
+    if given is None:
+        subprocess.run([os.path.join(TOP, "tests", "archives")], check=True, stdout=subprocess.DEVNULL, stderr=subprocess.DEVNULL)
+        given = [(os.path.join(TOP, "target", "staticlib", archive), call) for archive, call in CALLS]
     passed = failed = 0
 
     def expect(holds, said):
@@ -80,21 +121,27 @@ def main():
         passed, failed = passed + bool(holds), failed + (not holds)
         print(f"{'ok' if holds else 'NOT SO'}: {said}")
 
-    found, count = divisions_in_source(SOURCE)
-    expect(count > 0 and not found, f"no / and no % in the {count} lines of crates/stepping/src {found or ''}")
+    text = text_of(STEP)
+    expect(text and not divisions(text), f"no / and no % in the {len(text.splitlines())} lines of {STEP} {divisions(text) or ''}")
+    for path, functions in BESIDE:
+        for function in functions:
+            body = body_of(text_of(path), function)
+            expect(body and not divisions(body), f"none in the {len(body.splitlines())} lines of {function} in {path} {divisions(body) or ''}")
 
-    listed = instructions(archive, "mo_make_table")
-    onward = followers(listed)
-    is_division = [bool(re.match(r"i?div", name)) for _, name, _ in listed]
-    shifts = [i for i, (_, name, operands) in enumerate(listed) if name.startswith("shrx") or (name.startswith("shr") and operands.startswith("%cl"))]
-    expect(any(is_division), f"{sum(is_division)} of the {len(listed)} instructions of mo_make_table divide, so that a division would be seen")
-    expect(shifts, f"{len(shifts)} instructions shift by a variable, as the step does")
-    for i in shifts:
-        loop = loop_around(onward, i)
-        divide = [hex(listed[j][0]) for j in loop if is_division[j]]
-        calls = [hex(listed[j][0]) for j in loop if listed[j][1].startswith("call")]
-        expect(i in loop, f"the one at {hex(listed[i][0])} is in a loop, whose outermost has {len(loop)} instructions")
-        expect(not divide and not calls, f"none of them divides {divide or ''} or calls {calls or ''}")
+    for archive, call in given:
+        listed = instructions(archive, call)
+        onward, leaves = followers(listed)
+        shifts = {i for i, (_, name, operands) in enumerate(listed) if name.startswith("shrx") or (name.startswith("shr") and operands.startswith("%cl"))}
+        dividing = {i for i, (_, name, _) in enumerate(listed) if "div" in name}
+        widening = {i for i, (_, name, operands) in enumerate(listed) if re.match(r"i?mul[lq]?$|mulx", name) and "," not in operands}
+        out = {i for i, leaving in enumerate(leaves) if leaving}
+        expect(dividing, f"{call} has {len(listed)} instructions; {len(dividing)} divide, so that a division would be seen")
+        expect(len(shifts) > 1, f"{len(shifts)} shift by a variable, as the step does on its two ways")
+        around = [loop for loop in loops(onward) if shifts <= loop] if shifts else []
+        expect(around, "a loop has them all")
+        loop = min(around, key=len, default=set())
+        for kind, wrong in (("divides", dividing & loop), ("multiplies into two words", widening & loop), ("leaves the function", out & loop)):
+            expect(loop and not wrong, f"of its {len(loop)} instructions none {kind} {[hex(listed[i][0]) for i in sorted(wrong)] or ''}")
     print(f"{passed} passed, {failed} failed")
     return 0 if failed == 0 else 1
 

@@ -1,6 +1,6 @@
 /*
  * Making a table through the header, held to document 01's survey examples and refusals, and the made table read at ticks against the walk;
- * then the mean by area of the made tables of several chains.
+ * then the mean by area of the made tables of several chains, and chains that are stepped through at every cut.
  * tests/c/run builds and runs it.
  */
 #include "meshorchard.h"
@@ -109,11 +109,42 @@ static void check_means(void)
     expect("  its anchors", figures[0], 12);
 }
 
+/* One table at every cut of a chain; the figure that differs is the number of partitions walked, h by the period at the cut. */
+static void every_cut(const char *what, const uint64_t *tasks, size_t places, uint64_t g, uint64_t tick, uint64_t h)
+{
+    static uint64_t first_starts[999], first_latencies[999], cut_starts[999], cut_latencies[999];
+
+    expect(what, mo_make_table(tasks, 3 * places, places, 1, first_starts, 999, first_latencies, 999, figures), 0);
+    for (size_t p = 1; p <= places; p++) {
+        size_t differ = 0;
+
+        expect("  code at a cut", mo_make_table(tasks, 3 * places, places, p, cut_starts, 999, cut_latencies, 999, figures), 0);
+        expect_figures(g, tick, h, h / tasks[3 * (p - 1)]);
+        for (size_t i = 0; i < g; i++)
+            differ += cut_starts[i] != first_starts[i] || cut_latencies[i] != first_latencies[i];
+        expect("  anchors that differ from those of the first cut", differ, 0);
+    }
+}
+
+/* Steps before and after the cut: twelve anchors; durations above the periods; short periods beside long ones, where a job of one place is many
+ * of its neighbour. */
+static void check_steps(void)
+{
+    static const uint64_t twelve_anchors[9] = { 3, 2, 1, 7, 5, 2, 4, 4, 0 };
+    static const uint64_t long_durations[9] = { 10, 25, 0, 4, 9, 3, 6, 30, 1 };
+    static const uint64_t far_apart[12] = { 5, 1, 0, 2, 1, 1, 1000, 3, 7, 999, 2, 0 };
+
+    every_cut("twelve anchors at every cut", twelve_anchors, 3, 12, 7, 84);
+    every_cut("durations above the periods at every cut", long_durations, 3, 6, 0, 60);
+    every_cut("periods far apart at every cut", far_apart, 4, 999, 0, 999000);
+}
+
 int main(void)
 {
     check_making();
     check_refusals();
     check_agreement();
     check_means();
+    check_steps();
     return counted();
 }

@@ -1,5 +1,5 @@
 //! The chain as a struct of twelve tasks and a count, passed by value from function to function.
-//! rustc would leave the copies out, since no function changes its chain. `received` makes it copy, at the calls where the crates copied while they had this form.
+//! rustc would leave the copies out, since no function changes its chain. `received` makes it copy, at the calls where the crates copied while they had this form, and at the outset, which came later.
 use plain::anchors::Anchors;
 use plain::maker::{Figures, Made};
 use plain::outset::places_at;

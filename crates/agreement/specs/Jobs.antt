@@ -2,7 +2,7 @@
 use Prim.Native.Nat.{ℕ, zero, suc, _+_, _-_, _*_, _/_, _≤_, _<_}
 use native.Mathlib.Omega.{arith}
 use native.Mathlib.Decide.{decLt}
-use mathlib.Core.Path.{_≡_, ap}
+use mathlib.Core.Path.{_≡_}
 use mathlib.Core.Bool.{true}
 use mathlib.Core.List.{List}
 use Rattle.task.specs.declared.Task.{Task}
@@ -13,7 +13,7 @@ use Rattle.chain.specs.Chains.{at, lastPlace, forwardBy, walk}
 use Rattle.chain.specs.Checks.{Sound}
 use Rattle.chain.specs.Hyperperiod.{hyperOf}
 use Rattle.chain.specs.GaloisPair.{countBack, pair, warm-same, warm-next}
-use Rattle.chain.specs.Multiples.{hyper-pos, hyper-times}
+use Rattle.chain.specs.Multiples.{hyper-times, some-jobs}
 use Rattle.timing.specs.WarmUp.{warmAt, warmTick}
 use Rattle.timing.specs.Delay.{delayAt}
 use Rattle.timing.specs.WarmLaws.{all-periods, walk-mono, warm-count}
@@ -65,10 +65,7 @@ module _ (l : List Task) (ok : Sound l) where
 
   -- a hyperperiod holds a job of the first place
   pub some-job : 1 ≤ hyperOf l / at l 0 .period
-  some-job = elim (decLt 0 (hyperOf l / at l 0 .period)) [
-    | yes h ↦ h
-    | no h ↦ let z : hyperOf l / at l 0 .period ≡ 0 = omega arith in omega (arith, ap (λ (x : ℕ). x * at l 0 .period) z, hyper-first, hyper-pos l ok)
-  ]
+  some-job = some-jobs l ok 0 (ok .some)
 
   -- the walk from a job ends after its read
   pub end-after : (j : ℕ) → readOf (at l 0) j < endWalk l j

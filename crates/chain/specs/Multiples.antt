@@ -1,8 +1,9 @@
 -- The hyperperiod is a common multiple of the periods at the chain's places (`hyper-multiple`), and divides every other (`hyper-least`).
 use Prim.Native.Nat.{ℕ, zero, suc, _*_, _/_, _≤_, _<_, _∣_}
 use native.Mathlib.Omega.{arith}
+use native.Mathlib.Decide.{decLt}
 use native.Mathlib.Nat.{dvd-refl, dvd-trans, div-mul-cancel, one-dvd}
-use mathlib.Core.Path.{_≡_}
+use mathlib.Core.Path.{_≡_, ap}
 use mathlib.Core.List.{List, [], _∷_}
 use lib.ListN.{length}
 use Rattle.task.specs.declared.Task.{Task}
@@ -54,6 +55,13 @@ hyper-multiple l p h = from-multiple l 1 p h
 
 pub hyper-times : (l : List Task) (p : ℕ) → p < length l → hyperOf l / at l p .period * at l p .period ≡ hyperOf l
 hyper-times l p h = div-mul-cancel (at l p .period) (hyper-multiple l p h)
+
+-- so of a chain that passes 8 and 5 every place has a job in it,
+pub some-jobs : (l : List Task) → Sound l → (p : ℕ) → p < length l → 1 ≤ hyperOf l / at l p .period
+some-jobs l ok p h = elim (decLt 0 (hyperOf l / at l p .period)) [
+  | yes k ↦ k
+  | no k ↦ let z : hyperOf l / at l p .period ≡ 0 = omega arith in absurd (omega (arith, ap (λ (x : ℕ). x * at l p .period) z, hyper-times l p h, hyper-pos l ok))
+]
 
 -- and the least: every common multiple is a multiple of H.
 pub hyper-least : (l : List Task) (m : ℕ) → ((p : ℕ) → p < length l → 1 ≤ at l p .period) → ((p : ℕ) → p < length l → at l p .period ∣ m) → hyperOf l ∣ m

@@ -1,7 +1,6 @@
 -- What holds at each return of `judge` and `make_table`, and what an accepted making has.
-use Prim.Native.Nat.{ℕ, _+_, _-_, _*_, _/_, _≤_, _<_}
+use Prim.Native.Nat.{ℕ, _+_, _-_, _/_, _≤_, _<_}
 use native.Mathlib.Omega.{arith}
-use native.Mathlib.Decide.{decLe}
 use native.Mathlib.Nat.{div-mul-le-self, div-le-self}
 use mathlib.Core.Path.{_≡_, refl, sym, ap, _∙_}
 use mathlib.Core.Bool.{Bool, true, false, cond, _&&_}
@@ -20,11 +19,12 @@ use Rattle.chain.specs.declared.Verdict.the-variants as verdict
 use Rattle.chain.specs.Chains.{tasksOf, at}
 use Rattle.chain.specs.Checks.{verdictOf, verdictIn, Sound}
 use Rattle.chain.specs.Flat.{tasksIn, in-count}
+use Rattle.chain.specs.Hyperperiod.{hyperOf}
+use Rattle.chain.specs.Multiples.{some-jobs}
 use Rattle.chain.specs.StandsFor.{StandsFor}
+use Rattle.chain.proofs.CheckLaws.{FactsIn}
 use Rattle.timing.specs.WarmUp.{warmAt, warmTick}
 use Rattle.timing.specs.WarmRanges.{warm-range}
-use Rattle.chain.specs.Multiples.{hyper-times, hyper-pos}
-use Rattle.chain.proofs.CheckLaws.{FactsIn}
 use Rattle.partition.specs.Partitions.{startOf, anchorsOf}
 use Rattle.stepping.specs.Moves.{starts-again}
 use Rattle.maker.specs.declared.Count.{Count}
@@ -109,13 +109,8 @@ range-fills l h places p m n after f pl g w u a = rw (w, u, a) record {
   places-are = pl;
   inside = omega (arith, pl);
   warm = omega arith;
-  some = elim (decLe 1 (h / at l p .period)) [
-    | yes k ↦ k
-    | no k ↦
-        let e : h / at l p .period ≡ 0 = omega arith in
-        let t : h / at l p .period * at l p .period ≡ h = rw (f .hyper) (hyper-times l p g) in
-        absurd (omega (arith, f .hyper, ap (λ (x : ℕ). x * at l p .period) e, t, hyper-pos l (f .sound)))
-  ];
+  some = rw (f .hyper) (some-jobs l (f .sound) p g);
+  round = rw (f .hyper) (omega (arith, div-le-self (hyperOf l) (at l p .period)));
   few = omega (arith, div-le-self h (at l p .period), f .small);
   top = range-fits l (f .sound) p h g (f .small);
   later = sym (ap (λ (x : ℕ). startOf l p (warmAt l p + x / at l p .period)) (f .hyper) ∙ starts-again l (f .sound) p g ∙ ap (λ (x : ℕ). warmTick l + x) (sym (f .hyper)));

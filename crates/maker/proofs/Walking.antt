@@ -1,23 +1,23 @@
 -- One step of the walk over the partitions.
-use Prim.Native.Nat.{ℕ, suc, _+_, _-_, _*_, _≤_, _<_}
+use Prim.Native.Nat.{ℕ, _+_, _-_, _*_, _≤_, _<_}
 use native.Mathlib.Omega.{arith}
-use mathlib.Core.Path.{_≡_, refl, sym, ap, _∙_}
+use mathlib.Core.Path.{_≡_, refl, ap, _∙_}
 use mathlib.Core.List.{List, []}
 use lib.ListN.{length}
 use Rattle.task.specs.declared.Task.{Task}
-use Rattle.task.specs.Jobs.{writeOf}
 use Rattle.task.specs.LinkLaws.{read-mono}
 use Rattle.chain.specs.Chains.{at}
 use Rattle.timing.specs.WarmUp.{warmAt}
 use Rattle.partition.specs.declared.Partition.{Partition}
-use Rattle.partition.specs.Partitions.{startOf, endOf, IsPartition}
+use Rattle.partition.specs.Partitions.{startOf, IsPartition}
 use Rattle.partition.proofs.Bounds.{start-end, end-pos, own}
-use Rattle.stepping.specs.Steps.{jobAt}
+use Rattle.stepping.specs.OnePlace.{jobAt}
 use Rattle.stepping.specs.Standing.{Standing, Steps, Stepped, Reciprocals}
 use Rattle.stepping.specs.Onward.{back-self}
+use Rattle.stepping.specs.Moves.{states-gain}
 use Rattle.outset.specs.Outset.{Cut, First}
 use Rattle.maker.specs.declared.Count.{Count}
-use Rattle.maker.specs.Turn.{lastEnd, Added, Filled, Fills, Begins}
+use Rattle.maker.specs.Turn.{lastEnd, Added, Filled, Fills, Begins, Walked}
 use Rattle.maker.proofs.Turn.{Going, going-start, going-turn, going-end, added-few}
 
 -- x is the partition that comes walked − 1 after the first; g anchors were found before it, and last is the end of the kept one before it
@@ -50,7 +50,7 @@ module _ (t : List Task) (places p n : ℕ) (first : Partition) (after : ℕ) (s
     past = omega (arith, b .fills .warm, w .job, w .low)
 
     stands-at : jobAt state p ≡ x .job .0
-    stands-at = w .stands .back-jobs p (omega arith) ∙ back-self t p (x .job .0)
+    stands-at = w .stands .all .back-jobs p (omega arith) (omega arith) ∙ back-self t p (x .job .0)
 
     -- what a turn needs
     pub walking-adds : (x .start .0 ≤ x .end .0) × (g ≤ 60000000)
@@ -58,12 +58,15 @@ module _ (t : List Task) (places p n : ℕ) (first : Partition) (after : ℕ) (s
 
     pub walking-steps : (r : List ℕ) → Reciprocals t r → walked < n → Steps t places p r state
     walking-steps r rs more = record {
-      sound = b .fills .sound;
-      places = b .fills .places-are;
-      inside = b .fills .inside;
+      at-job = record {
+        sound = b .fills .sound;
+        places = b .fills .places-are;
+        inside = b .fills .inside;
+        warm = rw stands-at past;
+        stands = rw stands-at (w .stands);
+        top = rw stands-at (omega (arith, b .fills .top, read-mono (at t p) (x .job .0 + 1) (first .job .0 + n + 1) (omega (arith, w .job))));
+      };
       constants = rs;
-      warm = rw stands-at past;
-      stands = rw stands-at (w .stands);
       top = rw stands-at (omega (arith, b .fills .top, read-mono (at t p) (x .job .0 + 1 + 1) (first .job .0 + n + 1) (omega (arith, w .job))));
     }
 
@@ -83,24 +86,26 @@ module _ (t : List Task) (places p n : ℕ) (first : Partition) (after : ℕ) (s
         }
 
     -- after n - 1 steps the state stands at the last one
-    pub walking-stands : n ≤ walked → Standing t p (first .job .0 + (n - 1)) state
-    walking-stands all =
+    pub walking-leaves : n ≤ walked → Walked t p (first .job .0) n state₀ state
+    walking-leaves all =
         let e : first .job .0 + (n - 1) ≡ x .job .0 = omega (arith, w .job, w .high, w .low) in
-        rw e (w .stands)
+        let st : Standing t p (first .job .0 + (n - 1)) state = rw e (w .stands) in
+        record { stands = st; gains = states-gain t (b .fills .sound) p cut-in (first .job .0) (b .fills .warm) (n - 1) (omega (arith, b .fills .round)) state₀ state (b .stands) st }
 
     -- the last partition: the start of the one after it is known
-    pub walking-end : n ≤ walked → (g′ : ℕ) (s′ l′ : List ℕ) → Added x after last g s l s′ l′ g′ → (k : Count) → k .anchors ≡ g′ → k .walked ≡ walked → Filled t p (first .job .0) n s₀ l₀ s′ l′ k
-    walking-end all g′ s′ l′ ad r′ ra rw′ =
+    pub walking-end : n ≤ walked → (g′ : ℕ) (s′ l′ : List ℕ) → Added x after last g s l s′ l′ g′ → (c : Count) → c .anchors ≡ g′ → c .walked ≡ walked → Filled t p (first .job .0) n s₀ l₀ s′ l′ c
+    walking-end all g′ s′ l′ ad c anchors counted =
         let e : first .job .0 + n ≡ x .job .0 + 1 = omega (arith, w .job, w .high) in
-        let k = going-turn t p (first .job .0) n s₀ l₀ (x .job .0) (n + 1 - walked) last g s l (w .going) x after (w .is .starts) (w .is .ends) (b .fills .later ∙ ap (startOf t p) e) 0 (omega (arith, w .high)) (lastEnd x after last) refl g′ s′ l′ ad in
-        going-end t p (first .job .0) n s₀ l₀ (x .job .0 + 1) 0 (lastEnd x after last) g′ s′ l′ k r′ (end-pos t (b .fills .sound) p cut-in) refl ra (omega (arith, w .high))
+        let turned = going-turn t p (first .job .0) n s₀ l₀ (x .job .0) (n + 1 - walked) last g s l (w .going) x after (w .is .starts) (w .is .ends) (b .fills .later ∙ ap (startOf t p) e) 0 (omega (arith, w .high)) (lastEnd x after last) refl g′ s′ l′ ad in
+        going-end t p (first .job .0) n s₀ l₀ (x .job .0 + 1) 0 (lastEnd x after last) g′ s′ l′ turned c (end-pos t (b .fills .sound) p cut-in) refl anchors (omega (arith, w .high))
 
 -- ---- what `fill` needs and hands on
 
 module _ (t : List Task) (places p m n after : ℕ) (f : Fills t places p m n after) where
-  pub fill-cut : (Cut t places p m) × (2 * places ≤ 24)
+  pub fill-cut : (Cut t p m) × (places ≡ length t) × (2 * places ≤ 24)
   fill-cut = (
-    record { sound = f .sound; places = f .places-are; inside = f .inside; warm = f .warm; top = omega (arith, f .top, read-mono (at t p) (m + 1) (m + n + 1) (omega arith)) },
+    record { sound = f .sound; inside = omega (arith, f .inside, f .places-are); warm = f .warm; top = omega (arith, f .top, read-mono (at t p) (m + 1) (m + n + 1) (omega arith)) },
+    f .places-are,
     omega (arith, f .places-are, f .sound .few),
   )
 

@@ -1,5 +1,5 @@
 -- One turn of the loop over the partitions, and what the loop leaves.
-use Prim.Native.Nat.{ℕ, _+_, _-_, _≤_, _<_}
+use Prim.Native.Nat.{ℕ, _+_, _-_, _/_, _≤_, _<_}
 use mathlib.Core.Path.{_≡_}
 use mathlib.Core.Bool.{Bool, true, false, not, cond, _&&_}
 use mathlib.Core.List.{List, [], _∷_}
@@ -7,14 +7,16 @@ use lib.Dec.{eqb}
 use lib.ListN.{length}
 use lib.Seq.{sets}
 use Rattle.task.specs.declared.Task.{Task}
+use Rattle.task.specs.Jobs.{writeOf}
+use Rattle.chain.specs.Chains.{at}
+use Rattle.chain.specs.Checks.{Sound}
+use Rattle.chain.specs.Hyperperiod.{hyperOf}
+use Rattle.timing.specs.WarmUp.{warmAt}
 use Rattle.table.specs.Anchors.{Anchor, anchor}
 use Rattle.partition.specs.declared.Partition.{Partition}
 use Rattle.partition.specs.Lists.{rangeFrom}
 use Rattle.partition.specs.Partitions.{anchorsFrom, startOf, IsPartition}
-use Rattle.task.specs.Jobs.{writeOf}
-use Rattle.chain.specs.Chains.{at}
-use Rattle.chain.specs.Checks.{Sound}
-use Rattle.timing.specs.WarmUp.{warmAt}
+use Rattle.stepping.specs.OnePlace.{jobAt}
 use Rattle.stepping.specs.Standing.{Standing}
 use Rattle.maker.specs.declared.Count.{Count}
 use Rattle.maker.specs.Making.{startsOf, latenciesOf, overlay}
@@ -43,13 +45,14 @@ pub record Added (x : Partition) (y q g : ℕ) (s l s′ l′ : List ℕ) (r : �
   pub first : s′ ≡ sets s g (startsOf (added x y q))
   pub second : l′ ≡ sets l g (latenciesOf (added x y q))
 
--- The n partitions from m on, from the warm-up job on, and the start of the one after them; no tick is large.
+-- The n partitions from m on, from the warm-up job on and at most a whole range of them, and the start of the one after them; no tick is large.
 pub record Fills (t : List Task) (places p m n after : ℕ) : Type 0 where
   pub sound : Sound t
   pub places-are : places ≡ length t
   pub inside : p < places
   pub warm : warmAt t p ≤ m
   pub some : 1 ≤ n
+  pub round : n ≤ hyperOf t / at t p .period
   pub few : n ≤ 60000000
   pub top : writeOf (at t p) (m + n + 1) ≤ 1000000000000
   pub later : after ≡ startOf t p (m + n)
@@ -66,3 +69,8 @@ pub record Begins (t : List Task) (places p n : ℕ) (x : Partition) (after : �
   pub fills : Fills t places p (x .job .0) n after
   pub is : IsPartition t p (x .job .0) x
   pub stands : Standing t p (x .job .0) state
+
+-- What the walk leaves of the state: it stands n − 1 steps on, and no place's job gained more than H / T on the way (order 4 of document 02).
+pub record Walked (t : List Task) (p m n : ℕ) (old new : List ℕ) : Type 0 where
+  pub stands : Standing t p (m + (n - 1)) new
+  pub gains : (i : ℕ) → i < length t → jobAt new i ≤ jobAt old i + hyperOf t / at t i .period

@@ -8,15 +8,11 @@ use task::Job;
 use task::Task;
 use task::Tick;
 ghost use mathlib.Core.Path.{_≡_};
-ghost use lib.ListN.{length, set};
-ghost use Prim.Native.Nat.{_+_, _-_, _*_, _≤_, _<_};
-ghost use Rattle.task.specs.Jobs.{writeOf};
-ghost use Rattle.chain.specs.Chains.{at};
-ghost use Rattle.chain.specs.Checks.{Sound};
+ghost use lib.ListN.{set};
+ghost use Prim.Native.Nat.{_≤_};
 ghost use Rattle.chain.specs.Flat.{tasksIn};
-ghost use Rattle.timing.specs.WarmUp.{warmAt};
-ghost use Rattle.stepping.specs.Standing.{Standing, Reciprocals};
-ghost use Rattle.maker.specs.Turn.{lastEnd, Added, Filled, Begins, Fills};
+ghost use Rattle.stepping.specs.Standing.{Reciprocals};
+ghost use Rattle.maker.specs.Turn.{lastEnd, Added, Filled, Fills, Begins, Walked};
 ghost use Rattle.maker.specs.Making.{afterChecks, Makes, MakesFor};
 
 // The anchor count g, the warm-up tick x0, the hyperperiod H and the number of partitions walked.
@@ -99,7 +95,7 @@ fn walk(
     latencies: &mut [u64],
 ) -> Count
     requires { ⌜ (Begins (tasksIn (now tasks)) places p n first (after .0) (now state)) × Reciprocals (tasksIn (now tasks)) (now reciprocals) ⌝ }
-    ensures { λ r. ⌜ (Filled (tasksIn (now (tasks .entry))) p (first .job .0) n (now (starts .entry)) (now (latencies .entry)) (now (starts .exit)) (now (latencies .exit)) r) × Standing (tasksIn (now (tasks .entry))) p (first .job .0 + (n - 1)) (now (state .exit)) ⌝ }
+    ensures { λ r. ⌜ (Filled (tasksIn (now (tasks .entry))) p (first .job .0) n (now (starts .entry)) (now (latencies .entry)) (now (starts .exit)) (now (latencies .exit)) r) × Walked (tasksIn (now (tasks .entry))) p (first .job .0) n (now (state .entry)) (now (state .exit)) ⌝ }
 {
     let mut walked: u64 = 1;
     let mut g: usize = 0;
@@ -130,7 +126,7 @@ fn walk_by_steps(
     latencies: &mut [u64],
 ) -> Count
     requires { ⌜ Begins (tasksIn (now tasks)) places p n first (after .0) (now state) ⌝ }
-    ensures { λ r. ⌜ (Filled (tasksIn (now (tasks .entry))) p (first .job .0) n (now (starts .entry)) (now (latencies .entry)) (now (starts .exit)) (now (latencies .exit)) r) × Standing (tasksIn (now (tasks .entry))) p (first .job .0 + (n - 1)) (now (state .exit)) ⌝ }
+    ensures { λ r. ⌜ (Filled (tasksIn (now (tasks .entry))) p (first .job .0) n (now (starts .entry)) (now (latencies .entry)) (now (starts .exit)) (now (latencies .exit)) r) × Walked (tasksIn (now (tasks .entry))) p (first .job .0) n (now (state .entry)) (now (state .exit)) ⌝ }
 {
     let mut reciprocals = [0u64; 36];
     outset::reciprocals_of(tasks, places, &mut reciprocals);

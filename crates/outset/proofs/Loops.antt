@@ -1,148 +1,150 @@
--- One turn of each loop of the outset.
+-- One turn of each loop over the places: what the code needs in it, and what it leaves.
 use Prim.Native.Nat.{ℕ, _+_, _-_, _*_, _/_, _≤_, _<_}
 use native.Mathlib.Omega.{arith}
-use mathlib.Core.Path.{_≡_, refl, sym, ap, _∙_}
+use mathlib.Core.Path.{_≡_, sym, ap, _∙_}
 use mathlib.Core.List.{List}
-use lib.ListN.{length, getD, set, length-set}
-use lib.Seq.{getD-set-same, getD-set-other}
+use lib.ListN.{length, set, length-set}
+use lib.Seq.{getD-set-same}
 use Rattle.task.specs.declared.Task.{Task}
 use Rattle.task.specs.Jobs.{readOf, writeOf}
-use Rattle.task.specs.LinkLaws.{read-mono, job-small}
+use Rattle.task.specs.LinkLaws.{read-mono}
 use Rattle.chain.specs.Chains.{at}
-use Rattle.chain.specs.Checks.{Sound}
 use Rattle.chain.specs.Ranges.{forward-fits, backward-fits}
-use Rattle.stepping.specs.Steps.{jobAt}
 use Rattle.partition.specs.declared.Partition.{Partition}
 use Rattle.partition.specs.Partitions.{IsPartition}
-use Rattle.stepping.specs.Standing.{backJob, onJob, backTicks, onTicks, Standing, Stands}
+use Rattle.partition.proofs.Bounds as bounds
+use Rattle.stepping.specs.OnePlace.{jobAt, stored-long}
+use Rattle.stepping.specs.Standing.{backJob, onJob, backTicks, onTicks, StandsFrom, Standing, Stands}
 use Rattle.stepping.specs.Ways.{back-is, back-quotient, on-quotient}
-use Rattle.stepping.specs.Onward.{back-self, on-self}
-use Rattle.outset.specs.Outset.{Put, StandsFrom, States, Cut, First}
-use Rattle.outset.specs.Filling.{stands-back, stands-on, put-length, stands-whole}
+use Rattle.stepping.specs.Onward.{back-self}
+use Rattle.outset.specs.Outset.{Put, States, Cut, First}
+use Rattle.outset.specs.Filling.{stands-back, stands-on}
 
 period-same : (a b : Task) → a ≡ b → a .period ≡ b .period
 period-same a b e = ap (λ (x : Task). x .period) e
 
--- ---- state
+module _ (l : List Task) (p m : ℕ) (cut : Cut l p m) where
+  pub job-fits : m + 1 ≤ 1000000000000
+  job-fits = omega (arith, bounds.job-fits l (cut .sound) p (cut .inside) (m + 1), cut .top)
 
-pub job-fits : (l : List Task) (n p m : ℕ) → Cut l n p m → m + 1 ≤ 1000000000000
-job-fits l n p m cut = omega (arith, job-small (at l p) (cut .sound .each p (omega (arith, cut .places, cut .inside)) .period-pos) (m + 1), cut .top)
+  -- ---- the way back
 
-module _ (l : List Task) (n p m : ℕ) (cut : Cut l n p m) (old s : List ℕ) where
-  cut-in : p < length l
-  cut-in = omega (arith, cut .places, cut .inside)
+  -- A turn at place i, where j is the job of place i + 1, b its task, and s the state; a is then the task of place i, and t what b's job reads.
+  pub record BackTurn (old s : List ℕ) (i j : ℕ) (b : Task) : Type 0 where
+    pub reads : readOf b j ≤ 2000000000000
+    pub phase : (a : Task) → a ≡ at l i → (t : ℕ) → t ≡ readOf b j → a .phase ≤ t
+    pub duration : (a : Task) → a ≡ at l i → (t : ℕ) → t ≡ readOf b j → a .duration ≤ t - a .phase
+    pub fits : (a : Task) → a ≡ at l i → (1 ≤ a .period) × (i < 12) × (2 * i + 2 ≤ length s)
+    pub leaves : (a : Task) → a ≡ at l i → (t : ℕ) → t ≡ readOf b j → (new : List ℕ) (r : ℕ) → Put i (t - a .phase - a .duration) (a .period) s new r → (r ≡ backJob l p m i) × States l p m i (p + 1) old new
 
-  -- the job j of place i + 1 is known, b is its task and a that of place i
-  module _ (room : 2 * (p + 1) ≤ length old) (i : ℕ) (u : i < p) (k : States l p m (i + 1) (p + 1) old s) (j : ℕ) (job : j ≡ backJob l p m (i + 1)) (b : Task) (here : b ≡ at l (i + 1)) where
+  module _ (old s : List ℕ) (room : 2 * (p + 1) ≤ length old) (i : ℕ) (u : i < p) (k : States l p m (i + 1) (p + 1) old s) (j : ℕ) (job : j ≡ backJob l p m (i + 1)) (b : Task) (here : b ≡ at l (i + 1)) where
     read-is : readOf b j ≡ readOf (at l (i + 1)) (backJob l p m (i + 1))
     read-is = ap (λ (x : Task). readOf x j) here ∙ ap (readOf (at l (i + 1))) job
 
-    pub read-fits : readOf b j ≤ 2000000000000
-    read-fits =
-        omega (arith, read-is, backward-fits l (cut .sound) (i + 1) p (omega arith) cut-in m _ (back-is l (cut .sound) p cut-in m (cut .warm) (i + 1) (omega arith)), read-mono (at l p) m (m + 1) (omega arith), cut .top)
+    quotient : (writeOf (at l i) 0 ≤ readOf (at l (i + 1)) (backJob l p m (i + 1))) × (backJob l p m i ≡ backTicks l p m i / at l i .period)
+    quotient = back-quotient l (cut .sound) p (cut .inside) m (cut .warm) i u
 
-    module _ (a : Task) (is : a ≡ at l i) (t : ℕ) (read : t ≡ readOf b j) where
-      quotient : (writeOf (at l i) 0 ≤ readOf (at l (i + 1)) (backJob l p m (i + 1))) × (backJob l p m i ≡ backTicks l p m i / at l i .period)
-      quotient = back-quotient l (cut .sound) p cut-in m (cut .warm) i u
+    write-0 : (a : Task) → a ≡ at l i → a .phase + a .duration ≡ writeOf (at l i) 0
+    write-0 a is = ap (λ (x : Task). x .phase + x .duration) is ∙ (omega arith)
 
-      write-0 : a .phase + a .duration ≡ writeOf (at l i) 0
-      write-0 = ap (λ (x : Task). x .phase + x .duration) is ∙ (omega arith)
+    i-room : 2 * i + 2 ≤ length s
+    i-room = omega (arith, k .long)
 
-      pub phase-fits : a .phase ≤ t
-      phase-fits = omega (arith, write-0, read, read-is, quotient .0)
+    ticks : (a : Task) → a ≡ at l i → (t : ℕ) → t ≡ readOf b j → t - a .phase - a .duration ≡ backTicks l p m i
+    unfolding backTicks
+    ticks a is t read = omega (arith, write-0 a is, read, read-is)
 
-      pub duration-fits : a .duration ≤ t - a .phase
-      duration-fits = omega (arith, write-0, read, read-is, quotient .0)
+    pub back-turn : BackTurn old s i j b
+    back-turn = record {
+      reads = omega (arith, read-is, backward-fits l (cut .sound) (i + 1) p (omega arith) (cut .inside) m _ (back-is l (cut .sound) p (cut .inside) m (cut .warm) (i + 1) (omega arith)), read-mono (at l p) m (m + 1) (omega arith), cut .top);
+      phase = λ a is t read. omega (arith, write-0 a is, read, read-is, quotient .0);
+      duration = λ a is t read. omega (arith, write-0 a is, read, read-is, quotient .0);
+      fits = λ a is. (omega (arith, period-same a (at l i) is, cut .sound .each i (omega (arith, cut .inside)) .period-pos), omega (arith, cut .inside, cut .sound .few), i-room);
+      leaves = λ a is t read new r pt.
+          let q : Put i (backTicks l p m i) (at l i .period) s new r = rw (ticks a is t read, period-same a (at l i) is) at pt in
+          (q .is ∙ sym (quotient .1), record { long = stored-long s new i _ _ (q .stored) ∙ k .long; from = stands-back l p m s new i (p + 1) r u (omega arith) i-room (k .from) q (quotient .1) });
+    }
 
-      pub put-back-fits : (1 ≤ a .period) × (i < 12) × (2 * i + 2 ≤ length s)
-      put-back-fits = (omega (arith, period-same a (at l i) is, cut .sound .each i (omega (arith, cut-in)) .period-pos), omega (arith, cut-in, cut .sound .few), omega (arith, k .long))
+  -- ---- the way on
 
-      ticks : t - a .phase - a .duration ≡ backTicks l p m i
-      unfolding backTicks
-      ticks = omega (arith, write-0, read, read-is)
+  -- A turn at place c + 1, where j is the job of place c, a its task, and s the state; b is then the task of place c + 1, and w what a's job writes.
+  pub record OnTurn (old s : List ℕ) (c j : ℕ) (a : Task) : Type 0 where
+    pub writes : writeOf a j ≤ 2000000000000
+    pub phase : (b : Task) → b ≡ at l (c + 1) → (w : ℕ) → w ≡ writeOf a j → b .phase ≤ w
+    pub period : (b : Task) → b ≡ at l (c + 1) → 1 ≤ b .period
+    pub ticks : (b : Task) → b ≡ at l (c + 1) → (w : ℕ) → w ≡ writeOf a j → w - b .phase + (b .period - 1) ≤ 3000000000000
+    pub fits : (b : Task) → b ≡ at l (c + 1) → (1 ≤ b .period) × (c + 1 < 12) × (2 * (c + 1) + 2 ≤ length s)
+    pub leaves : (b : Task) → b ≡ at l (c + 1) → (w : ℕ) → w ≡ writeOf a j → (new : List ℕ) (r : ℕ) → Put (c + 1) (w - b .phase + (b .period - 1)) (b .period) s new r → (r ≡ onJob l p m (c + 1)) × States l p m 0 (c + 1 + 1) old new
 
-      pub put-back : (new : List ℕ) (r : ℕ) → Put i (t - a .phase - a .duration) (a .period) s new r → (r ≡ backJob l p m i) × States l p m i (p + 1) old new
-      put-back new r pt =
-          let q : Put i (backTicks l p m i) (at l i .period) s new r = rw (ticks, period-same a (at l i) is) at pt in
-          (q .is ∙ sym (quotient .1), record { long = put-length l p m s new i (backTicks l p m i) (at l i .period) r q (put-back-fits .2) ∙ k .long; from = stands-back l p m s new i (p + 1) r u (omega arith) (put-back-fits .2) (k .from) q (quotient .1) })
-
-  -- the job j of place c is known, a is its task and b that of place c + 1
-  module _ (room : 2 * n ≤ length old) (c : ℕ) (u : p ≤ c) (v : c + 1 < n) (k : States l p m 0 (c + 1) old s) (j : ℕ) (job : j ≡ onJob l p m c) (a : Task) (here : a ≡ at l c) where
-    in-l : c + 1 < length l
-    in-l = omega (arith, cut .places)
-
+  module _ (old s : List ℕ) (room : 2 * length l ≤ length old) (c : ℕ) (u : p ≤ c) (v : c + 1 < length l) (k : States l p m 0 (c + 1) old s) (j : ℕ) (job : j ≡ onJob l p m c) (a : Task) (here : a ≡ at l c) where
     write-is : writeOf a j ≡ writeOf (at l c) (onJob l p m c)
     write-is = ap (λ (x : Task). writeOf x j) here ∙ ap (writeOf (at l c)) job
 
-    pub write-fits : writeOf a j ≤ 2000000000000
-    write-fits = omega (arith, write-is, forward-fits l (cut .sound) p c u (omega (arith, in-l)) (m + 1), cut .top)
+    write-fits : writeOf a j ≤ 2000000000000
+    write-fits = omega (arith, write-is, forward-fits l (cut .sound) p c u (omega arith) (m + 1), cut .top)
 
-    module _ (b : Task) (is : b ≡ at l (c + 1)) (w : ℕ) (write : w ≡ writeOf a j) where
-      on-q : (at l (c + 1) .phase ≤ writeOf (at l c) (onJob l p m c)) × (onJob l p m (c + 1) ≡ onTicks l p m c / at l (c + 1) .period)
-      on-q = on-quotient l (cut .sound) p cut-in m (cut .warm) c u in-l
+    on-q : (at l (c + 1) .phase ≤ writeOf (at l c) (onJob l p m c)) × (onJob l p m (c + 1) ≡ onTicks l p m c / at l (c + 1) .period)
+    on-q = on-quotient l (cut .sound) p (cut .inside) m (cut .warm) c u v
 
-      on-phase : b .phase ≡ at l (c + 1) .phase
-      on-phase = ap (λ (x : Task). x .phase) is
+    phase-same : (b : Task) → b ≡ at l (c + 1) → b .phase ≡ at l (c + 1) .phase
+    phase-same b is = ap (λ (x : Task). x .phase) is
 
-      pub phase-before : b .phase ≤ w
-      phase-before = omega (arith, write, write-is, on-q .0, on-phase)
+    period-some : (b : Task) → b ≡ at l (c + 1) → 1 ≤ b .period
+    period-some b is = omega (arith, period-same b (at l (c + 1)) is, cut .sound .each (c + 1) v .period-pos)
 
-      pub period-some : 1 ≤ b .period
-      period-some = omega (arith, period-same b (at l (c + 1)) is, cut .sound .each (c + 1) in-l .period-pos)
+    c-room : 2 * (c + 1) + 2 ≤ length s
+    c-room = omega (arith, k .long)
 
-      pub ticks-fit : w - b .phase + (b .period - 1) ≤ 3000000000000
-      ticks-fit = omega (arith, write, write-fits, period-same b (at l (c + 1)) is, cut .sound .each (c + 1) in-l .period-max)
+    ticks-on : (b : Task) → b ≡ at l (c + 1) → (w : ℕ) → w ≡ writeOf a j → w - b .phase + (b .period - 1) ≡ onTicks l p m c
+    unfolding onTicks
+    ticks-on b is w write = omega (arith, write, write-is, phase-same b is, period-same b (at l (c + 1)) is)
 
-      pub put-on-fits : (1 ≤ b .period) × (c + 1 < 12) × (2 * (c + 1) + 2 ≤ length s)
-      put-on-fits = (period-some, omega (arith, in-l, cut .sound .few), omega (arith, k .long))
+    pub on-turn : OnTurn old s c j a
+    on-turn = record {
+      writes = write-fits;
+      phase = λ b is w write. omega (arith, write, write-is, on-q .0, phase-same b is);
+      period = period-some;
+      ticks = λ b is w write. omega (arith, write, write-fits, period-same b (at l (c + 1)) is, cut .sound .each (c + 1) v .period-max);
+      fits = λ b is. (period-some b is, omega (arith, cut .sound .few), c-room);
+      leaves = λ b is w write new r pt.
+          let q : Put (c + 1) (onTicks l p m c) (at l (c + 1) .period) s new r = rw (ticks-on b is w write, period-same b (at l (c + 1)) is) at pt in
+          (q .is ∙ sym (on-q .1), record { long = stored-long s new (c + 1) _ _ (q .stored) ∙ k .long; from = stands-on l p m s new c r u c-room (k .from) q (on-q .1) });
+    }
 
-      ticks-on : w - b .phase + (b .period - 1) ≡ onTicks l p m c
-      unfolding onTicks
-      ticks-on = omega (arith, write, write-is, on-phase, period-same b (at l (c + 1)) is)
+  -- ---- the whole
 
-      pub put-on : (new : List ℕ) (r : ℕ) → Put (c + 1) (w - b .phase + (b .period - 1)) (b .period) s new r → (r ≡ onJob l p m (c + 1)) × States l p m 0 (c + 1 + 1) old new
-      put-on new r pt =
-          let q : Put (c + 1) (onTicks l p m c) (at l (c + 1) .period) s new r = rw (ticks-on, period-same b (at l (c + 1)) is) at pt in
-          (q .is ∙ sym (on-q .1), record { long = put-length l p m s new (c + 1) (onTicks l p m c) (at l (c + 1) .period) r q (put-on-fits .2) ∙ k .long; from = stands-on l p m s new c r u (put-on-fits .2) (k .from) q (on-q .1) })
+  -- the state of the cut alone
+  stands-start : (s : List ℕ) → 2 * (p + 1) ≤ length s → StandsFrom l p m p (p + 1) (set s (2 * p) m)
+  stands-start s room = record {
+    back-jobs = λ i g u. let e : i ≡ p = omega arith in rw e (getD-set-same s (2 * p) m 0 (omega arith) ∙ sym (back-self l p m));
+    back-rests = λ i g u. absurd (omega arith);
+    on-jobs = λ c g u. absurd (omega arith);
+    on-rests = λ c g u. absurd (omega arith);
+  }
 
--- the state of the cut alone
-pub stands-start : (l : List Task) (p m : ℕ) (s : List ℕ) → 2 * (p + 1) ≤ length s → StandsFrom l p m p (p + 1) (set s (2 * p) m)
-stands-start l p m s room = record {
-  back-jobs = λ i g u. let e : i ≡ p = omega arith in rw e (getD-set-same s (2 * p) m 0 (omega arith) ∙ sym (back-self l p m));
-  back-rests = λ i g u. absurd (omega arith);
-  on-jobs = λ c g u. absurd (omega arith);
-  on-rests = λ c g u. absurd (omega arith);
-}
+  module _ (n : ℕ) (places : n ≡ length l) (s : List ℕ) (room : 2 * n ≤ length s) where
+    start-long : length (set s (2 * p) m) ≡ length s
+    start-long = length-set s (2 * p) m
 
--- ---- the whole
+    pub first-back-fits : (Cut l p m) × (2 * (p + 1) ≤ length (set s (2 * p) m)) × StandsFrom l p m p (p + 1) (set s (2 * p) m)
+    first-back-fits = (cut, omega (arith, start-long, cut .inside), stands-start s (omega (arith, cut .inside)))
 
-module _ (l : List Task) (n p m : ℕ) (cut : Cut l n p m) (s : List ℕ) (room : 2 * n ≤ length s) where
-  start-long : length (set s (2 * p) m) ≡ length s
-  start-long = length-set s (2 * p) m
+    module _ (s₂ : List ℕ) (back : States l p m 0 (p + 1) (set s (2 * p) m) s₂) where
+      pub first-on-fits : (Cut l p m) × (n ≡ length l) × (2 * n ≤ length s₂) × StandsFrom l p m 0 (p + 1) s₂
+      first-on-fits = (cut, places, omega (arith, start-long, back .long), back .from)
 
-  pub first-back-fits : (Cut l (length l) p m) × (2 * (p + 1) ≤ length (set s (2 * p) m)) × StandsFrom l p m p (p + 1) (set s (2 * p) m)
-  first-back-fits = (
-    record { sound = cut .sound; places = refl; inside = omega (arith, cut .places, cut .inside); warm = cut .warm; top = cut .top },
-    omega (arith, start-long, cut .inside),
-    stands-start l p m s (omega (arith, cut .inside)),
-  )
+      module _ (s₃ : List ℕ) (on : States l p m 0 n s₂ s₃) where
+        pub first-long : length s₃ ≡ length s
+        first-long = on .long ∙ back .long ∙ start-long
 
-  module _ (s₂ : List ℕ) (back : States l p m 0 (p + 1) (set s (2 * p) m) s₂) where
-    pub first-on-fits : (Cut l n p m) × (2 * n ≤ length s₂) × StandsFrom l p m 0 (p + 1) s₂
-    first-on-fits = (cut, omega (arith, start-long, back .long), back .from)
+        whole : Standing l p m s₃
+        whole = record { long = omega (arith, first-long); all = rw places at (on .from) }
 
-    module _ (s₃ : List ℕ) (on : States l p m 0 n s₂ s₃) where
-      pub first-long : length s₃ ≡ length s
-      first-long = on .long ∙ back .long ∙ start-long
+        job-is : jobAt s₃ p ≡ m
+        job-is = whole .all .back-jobs p (omega arith) (omega arith) ∙ back-self l p m
 
-      whole : Standing l p m s₃
-      whole = stands-whole l p m s₃ (omega (arith, first-long, cut .places)) (rw (cut .places) at (on .from))
+        pub here-fits : Stands l n p s₃
+        here-fits = record { sound = cut .sound; places = places; inside = omega (arith, cut .inside); warm = rw job-is (cut .warm); stands = rw job-is whole; top = rw job-is (cut .top) }
 
-      job-is : jobAt s₃ p ≡ m
-      job-is = whole .back-jobs p (omega arith) ∙ back-self l p m
-
-      pub here-fits : Stands l n p s₃
-      here-fits = record { sound = cut .sound; places = cut .places; inside = cut .inside; warm = rw job-is (cut .warm); stands = rw job-is whole; top = rw job-is (cut .top) }
-
-      pub first-is : (x : Partition) → IsPartition l p (jobAt s₃ p) x → First l p m s₃ x
-      first-is x i = record { stands = whole; partition = rw job-is at i }
+        pub first-is : (x : Partition) → IsPartition l p (jobAt s₃ p) x → First l p m s₃ x
+        first-is x i = record { stands = whole; partition = rw job-is at i }

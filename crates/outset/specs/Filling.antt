@@ -1,9 +1,9 @@
--- A place more.
-use Prim.Native.Nat.{ℕ, _+_, _-_, _*_, _/_, _%_, _^_, _≤_, _<_}
+-- A place more: of what stands for a division, and of the first state.
+use Prim.Native.Nat.{ℕ, _+_, _*_, _/_, _%_, _^_, _≤_, _<_}
 use native.Mathlib.Omega.{arith}
 use native.Mathlib.Decide.{decLt, ℕ-discrete}
 use native.Mathlib.Nat.{div-add-mod', div-mul-le-self, div-le-self, mul-le-mul-left, add-mul, mod-lt}
-use mathlib.Core.Path.{_≡_, refl, sym, ap, _∙_}
+use mathlib.Core.Path.{_≡_, sym, _∙_}
 use mathlib.Core.Logic.{_≢_}
 use mathlib.Core.List.{List}
 use lib.ListN.{length, getD, set, length-set}
@@ -11,9 +11,9 @@ use lib.Seq.{getD-set-same, getD-set-other}
 use Rattle.task.specs.declared.Task.{Task}
 use Rattle.chain.specs.Chains.{at}
 use Rattle.stepping.specs.Reciprocal.{Reciprocal}
-use Rattle.stepping.specs.Steps.{periodAt, factorAt, shiftAt, jobAt, restAt}
-use Rattle.stepping.specs.Standing.{backJob, onJob, backTicks, onTicks, Standing, Reciprocals}
-use Rattle.outset.specs.Outset.{Given, GivenTo, Put, StandsFrom}
+use Rattle.stepping.specs.OnePlace.{factorAt, shiftAt, jobAt, restAt, stored-other, stored-job, stored-rest}
+use Rattle.stepping.specs.Standing.{backJob, onJob, backTicks, onTicks, StandsFrom, GivenTo}
+use Rattle.outset.specs.Outset.{Given, Put}
 
 -- ---- what stands for a division
 
@@ -82,25 +82,12 @@ given-more l i old new to gv = record {
   ];
 }
 
-pub given-whole : (l : List Task) (r : List ℕ) → 3 * length l ≤ length r → GivenTo l (length l) r → Reciprocals l r
-given-whole l r u to = record { long = u; period = to .period; each = to .each }
-
 -- ---- state
 
 module _ (l : List Task) (p m : ℕ) (old new : List ℕ) where
-  module _ (i z t r : ℕ) (pt : Put i z t old new r) (room : 2 * i + 2 ≤ length old) where
-    pub put-length : length new ≡ length old
-    put-length = ap length (pt .stored) ∙ length-set (set old (2 * i) (z / t)) (2 * i + 1) (z % t) ∙ length-set old (2 * i) (z / t)
-
+  module _ (i z t r : ℕ) (pt : Put i z t old new r) where
     stay : (x : ℕ) → x ≢ 2 * i → x ≢ 2 * i + 1 → getD new x 0 ≡ getD old x 0
-    stay x h g = ap (λ (s : List ℕ). getD s x 0) (pt .stored) ∙ getD-set-other (set old (2 * i) (z / t)) (2 * i + 1) x (z % t) 0 g ∙ getD-set-other old (2 * i) x (z / t) 0 h
-
-    new-job : jobAt new i ≡ z / t
-    new-job =
-        ap (λ (s : List ℕ). getD s (2 * i) 0) (pt .stored) ∙ getD-set-other (set old (2 * i) (z / t)) (2 * i + 1) (2 * i) (z % t) 0 (λ q. omega arith) ∙ getD-set-same old (2 * i) (z / t) 0 (omega arith)
-
-    new-rest : restAt new i ≡ z % t
-    new-rest = ap (λ (s : List ℕ). getD s (2 * i + 1) 0) (pt .stored) ∙ getD-set-same (set old (2 * i) (z / t)) (2 * i + 1) (z % t) 0 (omega (arith, length-set old (2 * i) (z / t)))
+    stay = stored-other old new i (z / t) (z % t) (pt .stored)
 
     job-stays : (x : ℕ) → x ≢ i → jobAt new x ≡ jobAt old x
     job-stays x h = stay (2 * x) (λ q. h (omega arith)) (λ q. omega arith)
@@ -110,11 +97,11 @@ module _ (l : List Task) (p m : ℕ) (old new : List ℕ) where
 
   pub stands-back : (i b r : ℕ) → i < p → p < b → 2 * i + 2 ≤ length old → StandsFrom l p m (i + 1) b old → Put i (backTicks l p m i) (at l i .period) old new r → backJob l p m i ≡ backTicks l p m i / at l i .period → StandsFrom l p m i b new
   stands-back i b r u v room f pt e =
-      let j = job-stays i (backTicks l p m i) (at l i .period) r pt room in
-      let k = rest-stays i (backTicks l p m i) (at l i .period) r pt room in
+      let j = job-stays i (backTicks l p m i) (at l i .period) r pt in
+      let k = rest-stays i (backTicks l p m i) (at l i .period) r pt in
       record {
-        back-jobs = λ x g h. elim (ℕ-discrete x i) [ yes q ↦ rw q (new-job i (backTicks l p m i) (at l i .period) r pt room ∙ sym e) | no q ↦ j x q ∙ f .back-jobs x (more x g q) h ];
-        back-rests = λ x g h. elim (ℕ-discrete x i) [ yes q ↦ rw q (new-rest i (backTicks l p m i) (at l i .period) r pt room) | no q ↦ k x q ∙ f .back-rests x (more x g q) h ];
+        back-jobs = λ x g h. elim (ℕ-discrete x i) [ yes q ↦ rw q (stored-job old new i (backTicks l p m i / at l i .period) (backTicks l p m i % at l i .period) (pt .stored) room ∙ sym e) | no q ↦ j x q ∙ f .back-jobs x (more x g q) h ];
+        back-rests = λ x g h. elim (ℕ-discrete x i) [ yes q ↦ rw q (stored-rest old new i (backTicks l p m i / at l i .period) (backTicks l p m i % at l i .period) (pt .stored) room) | no q ↦ k x q ∙ f .back-rests x (more x g q) h ];
         on-jobs = λ c g h. j (c + 1) (λ z. omega arith) ∙ f .on-jobs c g h;
         on-rests = λ c g h. k (c + 1) (λ z. omega arith) ∙ f .on-rests c g h;
       }
@@ -124,29 +111,20 @@ module _ (l : List Task) (p m : ℕ) (old new : List ℕ) where
 
   pub stands-on : (c r : ℕ) → p ≤ c → 2 * (c + 1) + 2 ≤ length old → StandsFrom l p m 0 (c + 1) old → Put (c + 1) (onTicks l p m c) (at l (c + 1) .period) old new r → onJob l p m (c + 1) ≡ onTicks l p m c / at l (c + 1) .period → StandsFrom l p m 0 (c + 1 + 1) new
   stands-on c r u room f pt e =
-      let j = job-stays (c + 1) (onTicks l p m c) (at l (c + 1) .period) r pt room in
-      let k = rest-stays (c + 1) (onTicks l p m c) (at l (c + 1) .period) r pt room in
+      let j = job-stays (c + 1) (onTicks l p m c) (at l (c + 1) .period) r pt in
+      let k = rest-stays (c + 1) (onTicks l p m c) (at l (c + 1) .period) r pt in
       record {
         back-jobs = λ x g h. j x (λ z. omega arith) ∙ f .back-jobs x g h;
         back-rests = λ x g h. k x (λ z. omega arith) ∙ f .back-rests x g h;
         on-jobs = λ x g h. elim (ℕ-discrete x c) [
-          | yes q ↦ rw q (new-job (c + 1) (onTicks l p m c) (at l (c + 1) .period) r pt room ∙ sym e)
+          | yes q ↦ rw q (stored-job old new (c + 1) (onTicks l p m c / at l (c + 1) .period) (onTicks l p m c % at l (c + 1) .period) (pt .stored) room ∙ sym e)
           | no q ↦ j (x + 1) (λ z. q (omega arith)) ∙ f .on-jobs x g (fewer x h q)
         ];
         on-rests = λ x g h. elim (ℕ-discrete x c) [
-          | yes q ↦ rw q (new-rest (c + 1) (onTicks l p m c) (at l (c + 1) .period) r pt room)
+          | yes q ↦ rw q (stored-rest old new (c + 1) (onTicks l p m c / at l (c + 1) .period) (onTicks l p m c % at l (c + 1) .period) (pt .stored) room)
           | no q ↦ k (x + 1) (λ z. q (omega arith)) ∙ f .on-rests x g (fewer x h q)
         ];
       }
     where
       fewer : (x : ℕ) → x + 1 < c + 1 + 1 → x ≢ c → x + 1 < c + 1
       fewer x h q = omega arith
-
-pub stands-whole : (l : List Task) (p m : ℕ) (s : List ℕ) → 2 * length l ≤ length s → StandsFrom l p m 0 (length l) s → Standing l p m s
-stands-whole l p m s u f = record {
-  long = u;
-  back-jobs = λ i h. f .back-jobs i (omega arith) h;
-  back-rests = λ i h. f .back-rests i (omega arith) h;
-  on-jobs = λ c g h. f .on-jobs c g h;
-  on-rests = λ c g h. f .on-rests c g h;
-}

@@ -9,8 +9,8 @@ ghost use Prim.Native.Nat.{_+_, _*_, _≤_, _<_};
 ghost use Rattle.chain.specs.Checks.{Sound};
 ghost use Rattle.chain.specs.Flat.{tasksIn};
 ghost use Rattle.stepping.specs.Reciprocal.{Reciprocal};
-ghost use Rattle.stepping.specs.Standing.{Reciprocals};
-ghost use Rattle.outset.specs.Outset.{Given, Put, StandsFrom, Cut, First, States};
+ghost use Rattle.stepping.specs.Standing.{StandsFrom, Reciprocals};
+ghost use Rattle.outset.specs.Outset.{Given, Put, Cut, First, States};
 
 // A product with the factor, shifted, stands for a division.
 pub struct Scale {
@@ -18,7 +18,7 @@ pub struct Scale {
     pub shift: u64,
 }
 
-// The scale of a period. The powers of two are the least that serve: with more bits a product could pass 64, with fewer a quotient be one too large.
+// The scale of a period. One power of two for all does not serve: 2^44 would make a product of 68 bits at period 1, and 2^34 is too coarse above 1,024.
 fn scale_of(t: u64) -> Scale
     requires { ⌜ (1 ≤ t) × (t ≤ 1000000) ⌝ }
     ensures { λ r. ⌜ Reciprocal t (r .factor) (r .shift) ⌝ }
@@ -60,7 +60,7 @@ pub fn reciprocals_of(tasks: &[u64], n: usize, reciprocals: &mut [u64])
     }
 }
 
-// z ticks of period t as a job and a rest at place i.
+// z ticks of period t as a job and a rest at place i; answers the job.
 fn put(state: &mut [u64], i: usize, z: u64, t: u64) -> u64
     requires { ⌜ (1 ≤ t) × (i < 12) × (2 * i + 2 ≤ length (now state)) ⌝ }
     ensures { λ r. ⌜ Put i z t (now (state .entry)) (now (state .exit)) r ⌝ }
@@ -74,7 +74,7 @@ fn put(state: &mut [u64], i: usize, z: u64, t: u64) -> u64
 
 // The state of the places before the cut, on the way back from job m.
 fn first_back(tasks: &[u64], p: usize, m: Job, state: &mut [u64])
-    requires { ⌜ (Cut (tasksIn (now tasks)) (length (tasksIn (now tasks))) p (m .0)) × (2 * (p + 1) ≤ length (now state)) × (StandsFrom (tasksIn (now tasks)) p (m .0) p (p + 1) (now state)) ⌝ }
+    requires { ⌜ (Cut (tasksIn (now tasks)) p (m .0)) × (2 * (p + 1) ≤ length (now state)) × (StandsFrom (tasksIn (now tasks)) p (m .0) p (p + 1) (now state)) ⌝ }
     ensures { λ r. ⌜ States (tasksIn (now (tasks .entry))) p (m .0) 0 (p + 1) (now (state .entry)) (now (state .exit)) ⌝ }
 {
     let mut i = p;
@@ -91,7 +91,7 @@ fn first_back(tasks: &[u64], p: usize, m: Job, state: &mut [u64])
 
 // The state of the places after the cut, on the way on from job m + 1.
 fn first_on(tasks: &[u64], n: usize, p: usize, m: Job, state: &mut [u64])
-    requires { ⌜ (Cut (tasksIn (now tasks)) n p (m .0)) × (2 * n ≤ length (now state)) × (StandsFrom (tasksIn (now tasks)) p (m .0) 0 (p + 1) (now state)) ⌝ }
+    requires { ⌜ (Cut (tasksIn (now tasks)) p (m .0)) × (n ≡ length (tasksIn (now tasks))) × (2 * n ≤ length (now state)) × (StandsFrom (tasksIn (now tasks)) p (m .0) 0 (p + 1) (now state)) ⌝ }
     ensures { λ r. ⌜ States (tasksIn (now (tasks .entry))) p (m .0) 0 n (now (state .entry)) (now (state .exit)) ⌝ }
 {
     let last = n - 1;
@@ -110,7 +110,7 @@ fn first_on(tasks: &[u64], n: usize, p: usize, m: Job, state: &mut [u64])
 
 // The state at job m of place p, and that job's partition.
 pub fn first(tasks: &[u64], n: usize, p: usize, m: Job, state: &mut [u64]) -> Partition
-    requires { ⌜ (Cut (tasksIn (now tasks)) n p (m .0)) × (2 * n ≤ length (now state)) ⌝ }
+    requires { ⌜ (Cut (tasksIn (now tasks)) p (m .0)) × (n ≡ length (tasksIn (now tasks))) × (2 * n ≤ length (now state)) ⌝ }
     ensures { λ r. ⌜ First (tasksIn (now (tasks .entry))) p (m .0) (now (state .exit)) r ⌝ }
 {
     state[2 * p] = m.0;

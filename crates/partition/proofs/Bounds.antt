@@ -9,7 +9,7 @@ use Rattle.task.specs.declared.Latest.{Latest}
 use Rattle.task.specs.declared.Latest.the-variants.{Of, Nothing}
 use Rattle.task.specs.Jobs.{readOf, writeOf, Within}
 use Rattle.task.specs.LinkLaws.{job-small, read-mono}
-use Rattle.chain.specs.Chains.{at, lastPlace, forwardBy, backwardBy, jobOf}
+use Rattle.chain.specs.Chains.{at, lastPlace, backwardBy, jobOf}
 use Rattle.chain.specs.Checks.{Sound}
 use Rattle.chain.specs.Ranges.{forward-fits, forward-late, backward-fits}
 use Rattle.timing.specs.WarmUp.{warmAt}

@@ -1,12 +1,12 @@
 -- One place's move, as the code makes it.
-use Prim.Native.Nat.{ℕ, _+_, _-_, _*_, _/_, _%_, _^_, _≤_, _<_}
+use Prim.Native.Nat.{ℕ, _+_, _-_, _*_, _/_, _%_, _^_, _≤_}
 use native.Mathlib.Omega.{arith}
-use native.Mathlib.Nat.{mul-le-mul-left, mul-le-mul-right, div-mul-le-self, div-le-self, div-add-mod'}
-use mathlib.Core.Path.{_≡_, sym, ap, _∙_}
+use native.Mathlib.Nat.{mul-le-mul-right, div-mul-le-self, div-le-self, div-add-mod'}
+use mathlib.Core.Path.{_≡_, ap, _∙_}
 use mathlib.Core.List.{List}
-use lib.ListN.{length, set}
+use lib.ListN.{set}
 use Rattle.stepping.specs.Reciprocal.{whole-periods}
-use Rattle.stepping.specs.Steps.{periodAt, factorAt, shiftAt, jobAt, restAt, Advanced, Roomy}
+use Rattle.stepping.specs.OnePlace.{periodAt, factorAt, shiftAt, jobAt, restAt, Advanced, Roomy}
 
 module _ (r s : List ℕ) (i ticks : ℕ) (k : Roomy r s i ticks) where
   abbrev z : ℕ

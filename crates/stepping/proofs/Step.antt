@@ -1,57 +1,55 @@
 -- One step of all places, as the code makes it.
-use Prim.Native.Nat.{ℕ, _+_, _-_, _*_, _≤_, _<_}
+use Prim.Native.Nat.{ℕ, _+_, _-_, _*_, _≤_}
 use native.Mathlib.Omega.{arith}
-use mathlib.Core.Path.{_≡_, sym, ap, _∙_}
+use mathlib.Core.Path.{_≡_, _∙_}
 use mathlib.Core.List.{List}
 use lib.ListN.{length, set, length-set}
 use Rattle.task.specs.declared.Task.{Task}
-use Rattle.task.specs.Jobs.{readOf, writeOf}
 use Rattle.task.specs.LinkLaws.{read-mono}
 use Rattle.chain.specs.Chains.{at}
 use Rattle.partition.specs.declared.Partition.{Partition}
 use Rattle.partition.specs.Partitions.{IsPartition}
 use Rattle.partition.proofs.Bounds.{job-fits}
-use Rattle.stepping.specs.Steps.{jobAt}
+use Rattle.stepping.specs.OnePlace.{jobAt}
 use Rattle.stepping.specs.Went.{Went, Ready}
-use Rattle.stepping.specs.Standing.{Standing, Stands, Steps, Stepped}
+use Rattle.stepping.specs.Standing.{Standing, Stands, cut-in, Steps, Stepped}
 use Rattle.stepping.specs.Onward.{back-self, back-ready, on-ready, stands-on}
 
 module _ (l : List Task) (n p : ℕ) (r s : List ℕ) (k : Steps l n p r s) where
-  cut-in : p < length l
-  cut-in = omega (arith, k .places, k .inside)
-
   pub job-fits-on : jobAt s p + 1 ≤ 1000000000000
-  job-fits-on = omega (arith, job-fits l (k .sound) p cut-in (jobAt s p + 1 + 1), k .top)
+  job-fits-on = omega (arith, job-fits l (k .at-job .sound) p (cut-in l n p s (k .at-job)) (jobAt s p + 1 + 1), k .top)
 
-  low : writeOf (at l p) (jobAt s p + 1) ≤ 1000000000000
-  low = omega (arith, k .top, read-mono (at l p) (jobAt s p + 1) (jobAt s p + 1 + 1) (omega arith))
+  -- v is what the code put at the cut
+  module _ (v : ℕ) where
+    pub back-fit : Ready r p (set s (2 * p) v) 0 p
+    back-fit =
+        back-ready l (k .at-job .sound) p (cut-in l n p s (k .at-job)) (jobAt s p) (k .at-job .warm) r (k .constants) s (k .at-job .stands) v
+        (omega (arith, k .at-job .top, read-mono (at l p) (jobAt s p) (jobAt s p + 1) (omega arith)))
 
-  pub back-fit : Ready r p (set s (2 * p) (jobAt s p + 1)) 0 p
-  back-fit = back-ready l (k .sound) p cut-in (jobAt s p) (k .warm) r (k .constants) s (k .stands) (omega (arith, low, read-mono (at l p) (jobAt s p) (jobAt s p + 1) (omega arith)))
+    module _ (s₂ : List ℕ) (back : Went r p (λ x. x + 1) 0 p (set s (2 * p) v) s₂) where
+      pub on-fit : Ready r p s₂ (p + 1) n
+      on-fit = rw (k .at-job .places) (on-ready l (k .at-job .sound) p (cut-in l n p s (k .at-job)) (jobAt s p) (k .at-job .warm) r (k .constants) s (k .at-job .stands) v s₂ back (k .at-job .top))
 
-  module _ (s₂ : List ℕ) (back : Went r p (λ x. x + 1) 0 p (set s (2 * p) (jobAt s p + 1)) s₂) where
-    pub on-fit : Ready r p s₂ (p + 1) n
-    on-fit = rw (k .places) (on-ready l (k .sound) p cut-in (jobAt s p) (k .warm) r (k .constants) s (k .stands) s₂ back low)
+      module _ (s₃ : List ℕ) (on : Went r p (λ x. x - 1) (p + 1) n s₂ s₃) where
+        pub same-long : length s₃ ≡ length s
+        same-long = on .long ∙ back .long ∙ length-set s (2 * p) v
 
-    module _ (s₃ : List ℕ) (on : Went r p (λ x. x - 1) (p + 1) n s₂ s₃) where
-      stands-next : Standing l p (jobAt s p + 1) s₃
-      stands-next = stands-on l (k .sound) p cut-in (jobAt s p) (k .warm) r (k .constants) s (k .stands) s₂ back s₃ (rw (k .places) at on)
+        module _ (is : v ≡ jobAt s p + 1) where
+          stands-next : Standing l p (jobAt s p + 1) s₃
+          stands-next = stands-on l (k .at-job .sound) p (cut-in l n p s (k .at-job)) (jobAt s p) (k .at-job .warm) r (k .constants) s (k .at-job .stands) v s₂ back s₃ (rw (k .at-job .places) at on) is
 
-      job-next : jobAt s₃ p ≡ jobAt s p + 1
-      job-next = stands-next .back-jobs p (omega arith) ∙ back-self l p (jobAt s p + 1)
+          job-next : jobAt s₃ p ≡ jobAt s p + 1
+          job-next = stands-next .all .back-jobs p (omega arith) (omega arith) ∙ back-self l p (jobAt s p + 1)
 
-      pub here-fit : Stands l n p s₃
-      here-fit = record {
-        sound = k .sound;
-        places = k .places;
-        inside = k .inside;
-        warm = omega (arith, k .warm, job-next);
-        stands = rw job-next stands-next;
-        top = rw job-next (k .top);
-      }
+          pub here-fit : Stands l n p s₃
+          here-fit = record {
+            sound = k .at-job .sound;
+            places = k .at-job .places;
+            inside = k .at-job .inside;
+            warm = omega (arith, k .at-job .warm, job-next);
+            stands = rw job-next stands-next;
+            top = rw job-next (k .top);
+          }
 
-      pub same-long : length s₃ ≡ length s
-      same-long = on .long ∙ back .long ∙ length-set s (2 * p) (jobAt s p + 1)
-
-      pub stepped : (x : Partition) → IsPartition l p (jobAt s₃ p) x → Stepped l p s s₃ x
-      stepped x i = record { stands = stands-next; partition = rw job-next at i }
+          pub stepped : (x : Partition) → IsPartition l p (jobAt s₃ p) x → Stepped l p s s₃ x
+          stepped x i = record { stands = stands-next; partition = rw job-next at i }

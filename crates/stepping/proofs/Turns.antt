@@ -3,8 +3,8 @@ use Prim.Native.Nat.{ℕ, _+_, _-_, _*_, _≤_, _<_}
 use native.Mathlib.Omega.{arith}
 use mathlib.Core.Path.{_≡_, refl, sym, ap, _∙_}
 use mathlib.Core.List.{List}
-use lib.ListN.{length, getD}
-use Rattle.stepping.specs.Steps.{periodAt, jobAt, restAt, Advanced, Roomy}
+use lib.ListN.{length}
+use Rattle.stepping.specs.OnePlace.{periodAt, Advanced, Roomy}
 use Rattle.stepping.specs.Went.{gone, gone-cut, Went, Ready, went-none, went-gone, went-more, roomy, next-bound}
 
 -- the places from i to p − 1 have moved on, place i by so many ticks

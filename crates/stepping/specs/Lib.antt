@@ -1,5 +1,5 @@
 pub mod Reciprocal
-pub mod Steps
+pub mod OnePlace
 pub mod Went
 pub mod Standing
 pub mod Ways

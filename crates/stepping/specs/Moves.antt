@@ -2,20 +2,19 @@
 -- Over a whole range of the cut's jobs, the look past it included, each place's job gains H / T (`gains`) and never goes back (`never-back`), so it moves at most H / T times (`moves-few`).
 -- The same of the states that the steps of a making leave, by the contract of a step alone (`making-moves`). All for every cut and every duration.
 -- And the start of the partition after the range is a hyperperiod after the warm-up tick (`starts-again`).
-use Prim.Native.Nat.{ℕ, zero, suc, _+_, _-_, _*_, _/_, _≤_, _<_}
+use Prim.Native.Nat.{ℕ, zero, suc, _+_, _-_, _/_, _≤_, _<_}
 use native.Mathlib.Omega.{arith}
 use native.Mathlib.Decide.{decLe, ℕ-discrete}
 use native.Mathlib.Nat.{add-mul}
 use mathlib.Core.Path.{_≡_, refl, sym, ap, _∙_}
 use mathlib.Core.Logic.{_↔_}
-use mathlib.Core.Bool.{Bool, true, false, cond}
+use mathlib.Core.Bool.{cond}
 use mathlib.Core.List.{List}
 use lib.Dec.{leb, eqb}
 use lib.ListN.{length}
 use borrow.Author.Tests.{le-leb, lt-leb, eq-eqb, ne-eqb}
 use Rattle.task.specs.declared.Task.{Task}
-use Rattle.task.specs.declared.Latest.{Latest}
-use Rattle.task.specs.declared.Latest.the-variants.{Of, Nothing}
+use Rattle.task.specs.declared.Latest.the-variants.{Of}
 use Rattle.task.specs.Jobs.{readOf}
 use Rattle.task.specs.LinkLaws.{AtLeast}
 use Rattle.chain.specs.Chains.{at, forwardBy, backwardBy, jobOf}
@@ -28,7 +27,7 @@ use Rattle.timing.specs.WarmUp.{warmAt, warmTick}
 use Rattle.timing.specs.WarmLaws.{found, at-least-job}
 use Rattle.timing.specs.Period.{backward-repeats, Repeats, hyper-repeats}
 use Rattle.partition.specs.Partitions.{startOf}
-use Rattle.stepping.specs.Steps.{jobAt}
+use Rattle.stepping.specs.OnePlace.{jobAt}
 use Rattle.partition.specs.declared.Partition.{Partition}
 use Rattle.stepping.specs.Standing.{backJob, onJob, Standing, Stepped}
 use Rattle.stepping.specs.Onward.{back-self}
@@ -125,49 +124,48 @@ module _ (l : List Task) (ok : Sound l) (p : ℕ) (h : p < length l) where
       | no k ↦ rw (lt-leb i p (omega arith)) (forward-mono l p (i - p) (between l ok p i (omega arith) u) (m + 1) (m + 1 + 1) (omega arith))
     ]
 
-  -- Over the n steps of a making, at most H / T_p of them, a place's job gains at most H / T,
-  pub gain-few : (n : ℕ) → n ≤ hyperOf l / at l p .period → (i : ℕ) → i < length l → placeJob l p (warmAt l p + n) i ≤ placeJob l p (warmAt l p) i + hyperOf l / at l i .period
-  gain-few n top i u = omega (arith, climb (hyperOf l / at l p .period - n) (warmAt l p + n) (omega arith) (omega arith), gains (warmAt l p) (omega arith) i u)
-    where
-      climb : (d k : ℕ) → warmAt l p ≤ k → k + d ≡ warmAt l p + hyperOf l / at l p .period → placeJob l p k i ≤ placeJob l p (warmAt l p + hyperOf l / at l p .period) i
-      climb zero k v e = let q : k ≡ warmAt l p + hyperOf l / at l p .period = omega arith in omega (arith, ap (λ (x : ℕ). placeJob l p x i) q)
-      climb (suc d) k v e = omega (arith, never-back k v i u, climb d (k + 1) (omega arith) (omega arith))
-
-  -- and so it moves at most H / T times.
-  pub moves-few : (n : ℕ) → n ≤ hyperOf l / at l p .period → (i : ℕ) → i < length l → movesIn (λ m. placeJob l p m i) (warmAt l p) n ≤ hyperOf l / at l i .period
-  moves-few n top i u = omega (arith, moves-gain (λ m. placeJob l p m i) (warmAt l p) n (λ k v. never-back k v i u), gain-few n top i u)
-
   -- The state has these jobs.
   pub stands-job : (m : ℕ) (s : List ℕ) → Standing l p m s → (i : ℕ) → i < length l → jobAt s i ≡ placeJob l p m i
   unfolding placeJob
   stands-job m s st i u = elim (decLe i p) [
-    | yes k ↦ rw (le-leb i p k) (st .back-jobs i k)
-    | no k ↦ rw (lt-leb i p (omega arith)) (let e : i - 1 + 1 ≡ i = omega arith in rw e at (st .on-jobs (i - 1) (omega arith) (omega arith)))
+    | yes k ↦ rw (le-leb i p k) (st .all .back-jobs i (omega arith) k)
+    | no k ↦ rw (lt-leb i p (omega arith)) (let e : i - 1 + 1 ≡ i = omega arith in rw e at (st .all .on-jobs (i - 1) (omega arith) (omega arith)))
   ]
 
-  -- From the state at the warm-up job to that n jobs of the cut later no place's job gains more.
-  pub states-gain : (n : ℕ) → n ≤ hyperOf l / at l p .period → (s s′ : List ℕ) → Standing l p (warmAt l p) s → Standing l p (warmAt l p + n) s′ → (i : ℕ) → i < length l → jobAt s′ i ≤ jobAt s i + hyperOf l / at l i .period
-  states-gain n top s s′ a b i u = omega (arith, stands-job (warmAt l p) s a i u, stands-job (warmAt l p + n) s′ b i u, gain-few n top i u)
+  -- At most H / T_p steps from job m of the cut on, as a making takes them from its warm-up job on.
+  module _ (m : ℕ) (g : warmAt l p ≤ m) (n : ℕ) (top : n ≤ hyperOf l / at l p .period) where
+    -- A place's job gains at most H / T,
+    pub gain-few : (i : ℕ) → i < length l → placeJob l p (m + n) i ≤ placeJob l p m i + hyperOf l / at l i .period
+    gain-few i u = omega (arith, climb (hyperOf l / at l p .period - n) (m + n) (omega arith) (omega arith), gains m g i u)
+      where
+        climb : (d k : ℕ) → warmAt l p ≤ k → k + d ≡ m + hyperOf l / at l p .period → placeJob l p k i ≤ placeJob l p (m + hyperOf l / at l p .period) i
+        climb zero k v e = let q : k ≡ m + hyperOf l / at l p .period = omega arith in omega (arith, ap (λ (x : ℕ). placeJob l p x i) q)
+        climb (suc d) k v e = omega (arith, never-back k v i u, climb d (k + 1) (omega arith) (omega arith))
 
-  -- The states of a making: the first at the warm-up job of the cut, each further one what a step leaves.
-  module _ (n : ℕ) (s : ℕ → List ℕ) (x : ℕ → Partition) (begins : Standing l p (warmAt l p) (s 0)) (steps : (k : ℕ) → k < n → Stepped l p (s k) (s (k + 1)) (x k)) where
-    stands-at : (k : ℕ) → k ≤ n → Standing l p (warmAt l p + k) (s k)
-    stands-at zero u = let e : warmAt l p + 0 ≡ warmAt l p = omega arith in rw e begins
-    stands-at (suc k) u =
-        let st = steps k (omega arith) .stands in
-        let j : jobAt (s k) p ≡ warmAt l p + k = stands-at k (omega arith) .back-jobs p (omega arith) ∙ back-self l p (warmAt l p + k) in
-        let a : warmAt l p + suc k ≡ warmAt l p + k + 1 = omega arith in
-        let b : suc k ≡ k + 1 = omega arith in
-        rw (a, b) (rw j at st)
+    -- and so it moves at most H / T times.
+    pub moves-few : (i : ℕ) → i < length l → movesIn (λ k. placeJob l p k i) m n ≤ hyperOf l / at l i .period
+    moves-few i u = omega (arith, moves-gain (λ k. placeJob l p k i) m n (λ k v. never-back k (omega arith) i u), gain-few i u)
 
-    jobs-at : (k : ℕ) → k ≤ n → (i : ℕ) → i < length l → jobAt (s k) i ≡ placeJob l p (warmAt l p + k) i
-    jobs-at k u i v = stands-job (warmAt l p + k) (s k) (stands-at k u) i v
+    -- The first of the states that the code has, and the last.
+    pub states-gain : (s s′ : List ℕ) → Standing l p m s → Standing l p (m + n) s′ → (i : ℕ) → i < length l → jobAt s′ i ≤ jobAt s i + hyperOf l / at l i .period
+    states-gain s s′ a b i u = omega (arith, stands-job m s a i u, stands-job (m + n) s′ b i u, gain-few i u)
 
-    -- In so many steps, at most H / T_p, a place's job moves at most H / T times.
-    pub making-moves : n ≤ hyperOf l / at l p .period → (i : ℕ) → i < length l → movesIn (λ k. jobAt (s k) i) 0 n ≤ hyperOf l / at l i .period
-    making-moves top i v =
-        let e = moves-same (λ k. jobAt (s k) i) (λ m. placeJob l p m i) 0 (warmAt l p) n (λ k u. let z : 0 + k ≡ k = omega arith in rw z (jobs-at k u i v)) in
-        rw e (moves-few n top i v)
+    -- All of them: each is what a step leaves of the one before.
+    module _ (s : ℕ → List ℕ) (x : ℕ → Partition) (begins : Standing l p m (s 0)) (steps : (k : ℕ) → k < n → Stepped l p (s k) (s (k + 1)) (x k)) where
+      stands-at : (k : ℕ) → k ≤ n → Standing l p (m + k) (s k)
+      stands-at zero u = let e : m + 0 ≡ m = omega arith in rw e begins
+      stands-at (suc k) u =
+          let st = steps k (omega arith) .stands in
+          let j : jobAt (s k) p ≡ m + k = stands-at k (omega arith) .all .back-jobs p (omega arith) (omega arith) ∙ back-self l p (m + k) in
+          let a : m + suc k ≡ m + k + 1 = omega arith in
+          let b : suc k ≡ k + 1 = omega arith in
+          rw (a, b) (rw j at st)
+
+      -- In these steps a place's job moves at most H / T times.
+      pub making-moves : (i : ℕ) → i < length l → movesIn (λ k. jobAt (s k) i) 0 n ≤ hyperOf l / at l i .period
+      making-moves i v =
+          let e = moves-same (λ k. jobAt (s k) i) (λ k. placeJob l p k i) 0 m n (λ k u. let z : 0 + k ≡ k = omega arith in rw z (stands-job (m + k) (s k) (stands-at k u) i v)) in
+          rw e (moves-few i v)
 
   -- The start of the partition after the range.
   pub starts-again : startOf l p (warmAt l p + hyperOf l / at l p .period) ≡ warmTick l + hyperOf l

@@ -3,18 +3,18 @@ use Prim.Native.Nat.{ℕ, zero, suc, _+_, _-_, _*_, _/_, _%_, _≤_, _<_}
 use native.Mathlib.Omega.{arith}
 use native.Mathlib.Decide.{decLt}
 use native.Mathlib.Nat.{add-mul, mod-lt}
-use mathlib.Core.Path.{_≡_, refl, sym, ap, _∙_}
+use mathlib.Core.Path.{_≡_, sym, ap, _∙_}
 use mathlib.Core.List.{List}
 use lib.ListN.{length, getD, set, length-set}
 use lib.Seq.{getD-set-same, getD-set-other}
 use Rattle.task.specs.declared.Task.{Task}
 use Rattle.task.specs.Jobs.{readOf, writeOf}
 use Rattle.task.specs.LinkLaws.{job-small}
-use Rattle.chain.specs.Chains.{at, forwardBy, backwardBy, jobOf}
+use Rattle.chain.specs.Chains.{at, forwardBy, backwardBy}
 use Rattle.chain.specs.Checks.{Sound}
 use Rattle.chain.specs.Ranges.{forward-fits, backward-fits}
 use Rattle.timing.specs.WarmUp.{warmAt}
-use Rattle.stepping.specs.Steps.{periodAt, jobAt, restAt, moves-on}
+use Rattle.stepping.specs.OnePlace.{periodAt, jobAt, restAt, moves-on}
 use Rattle.stepping.specs.Went.{gone, gone-cut, other-ticks, Goes, Went, Place, Ready}
 use Rattle.stepping.specs.Standing.{backJob, onJob, backTicks, onTicks, Standing, Reciprocals}
 use Rattle.stepping.specs.Ways.{back-is, back-quotient, on-quotient}
@@ -54,18 +54,16 @@ on-self l p m = let a : p - p ≡ 0 = omega arith in rw a
 
 -- ---- all places: first the cut by one, then those before it, then those after it
 
-module _ (l : List Task) (ok : Sound l) (p : ℕ) (h : p < length l) (m : ℕ) (g : warmAt l p ≤ m) (r : List ℕ) (rs : Reciprocals l r) (old : List ℕ) (st : Standing l p m old) where
+module _ (l : List Task) (ok : Sound l) (p : ℕ) (h : p < length l) (m : ℕ) (g : warmAt l p ≤ m) (r : List ℕ) (rs : Reciprocals l r) (old : List ℕ) (st : Standing l p m old) (v : ℕ) where
+  -- the places beside the cut move on whatever stands at the cut
   abbrev pub cutMoved : List ℕ
-  cutMoved = set old (2 * p) (jobAt old p + 1)
+  cutMoved = set old (2 * p) v
 
   other : (x : ℕ) → (x ≡ 2 * p → ⊥) → getD cutMoved x 0 ≡ getD old x 0
-  other x u = getD-set-other old (2 * p) x (jobAt old p + 1) 0 u
-
-  cut-job : jobAt cutMoved p ≡ m + 1
-  cut-job = getD-set-same old (2 * p) (jobAt old p + 1) 0 (omega (arith, st .long)) ∙ ap (λ (x : ℕ). x + 1) (st .back-jobs p (omega arith) ∙ back-self l p m)
+  other x u = getD-set-other old (2 * p) x v 0 u
 
   cut-long : length cutMoved ≡ length old
-  cut-long = length-set old (2 * p) (jobAt old p + 1)
+  cut-long = length-set old (2 * p) v
 
   later : warmAt l p ≤ m + 1
   later = omega arith
@@ -79,11 +77,11 @@ module _ (l : List Task) (ok : Sound l) (p : ℕ) (h : p < length l) (m : ℕ) (
   cut-room = omega (arith, rs .long)
 
   cut-small : periodAt r p ≤ 1000000
-  cut-small = omega (arith, rs .period p h, ok .each p h .period-max)
+  cut-small = omega (arith, rs .all .period p h, ok .each p h .period-max)
 
   place-small : (state : List ℕ) (i N : ℕ) → i < length l → restAt state i ≡ N % at l i .period → jobAt state i ≤ 2000000000000 → Place r state i
   place-small state i N v q j = record {
-    reciprocal = rs .each i v;
+    reciprocal = rs .all .each i v;
     rest = omega (arith, q, mod-lt N {m = at l i .period} (ok .each i v .period-pos), ok .each i v .period-max);
     job = j;
   }
@@ -96,7 +94,7 @@ module _ (l : List Task) (ok : Sound l) (p : ℕ) (h : p < length l) (m : ℕ) (
     cut-small = cut-small;
     constants-long = omega (arith, rs .long);
     state-long = omega (arith, st .long, cut-long);
-    each = λ i a b. place-small cutMoved i (backTicks l p m i) (omega arith) (other (2 * i + 1) (λ z. omega arith) ∙ st .back-rests i b) (omega (arith, other (2 * i) (λ z. omega arith), st .back-jobs i (omega arith), back-fits i b));
+    each = λ i a b. place-small cutMoved i (backTicks l p m i) (omega arith) (other (2 * i + 1) (λ z. omega arith) ∙ st .all .back-rests i (omega arith) b) (omega (arith, other (2 * i) (λ z. omega arith), st .all .back-jobs i (omega arith) (omega arith), back-fits i b));
   }
     where
       back-fits : (i : ℕ) → i < p → backJob l p m i ≤ 1000000000000
@@ -104,7 +102,7 @@ module _ (l : List Task) (ok : Sound l) (p : ℕ) (h : p < length l) (m : ℕ) (
 
   -- one job of the cut
   cut-goes : (m + 1) * at l p .period ≡ m * at l p .period + periodAt r p
-  cut-goes = omega (arith, rs .period p h, add-mul m 1 (at l p .period))
+  cut-goes = omega (arith, rs .all .period p h, add-mul m 1 (at l p .period))
 
   -- ---- the places before the cut
 
@@ -119,8 +117,8 @@ module _ (l : List Task) (ok : Sound l) (p : ℕ) (h : p < length l) (m : ℕ) (
         let n : backTicks l p (m + 1) i ≡ backTicks l p m i + gone r p cutMoved s (i + 1)
         = read-later (at l (i + 1)) (backJob l p m (i + 1)) (backJob l p (m + 1) (i + 1)) (writeOf (at l i) 0) (gone r p cutMoved s (i + 1)) ih (a .0) in
         let q =
-        goes-on r p cutMoved s (i + 1) i (backTicks l p m i) (backTicks l p (m + 1) i) (at l i .period) (ok .each i (omega arith) .period-pos) (rs .period i (omega arith)) (back .each i (omega arith) u)
-        (other (2 * i) (λ z. omega arith) ∙ st .back-jobs i (omega arith) ∙ a .1) (other (2 * i + 1) (λ z. omega arith) ∙ st .back-rests i u) n in
+        goes-on r p cutMoved s (i + 1) i (backTicks l p m i) (backTicks l p (m + 1) i) (at l i .period) (ok .each i (omega arith) .period-pos) (rs .all .period i (omega arith)) (back .each i (omega arith) u)
+        (other (2 * i) (λ z. omega arith) ∙ st .all .back-jobs i (omega arith) (omega arith) ∙ a .1) (other (2 * i + 1) (λ z. omega arith) ∙ st .all .back-rests i (omega arith) u) n in
         (b .1 ∙ q .0, q .1)
 
     -- every place moved as the definition says, from the cut on
@@ -130,8 +128,8 @@ module _ (l : List Task) (ok : Sound l) (p : ℕ) (h : p < length l) (m : ℕ) (
         rw (q, back-self l p (m + 1), back-self l p m, sym (gone-cut r p cutMoved s (back .high (2 * p) (omega arith)))) cut-goes
     back-moves (suc d) i e =
         let f = back-one i (omega arith) (back-moves d (i + 1) (omega arith)) in
-        let k : jobAt cutMoved i ≡ backJob l p m i = other (2 * i) (λ z. omega arith) ∙ st .back-jobs i (omega arith) in
-        rw (f .0, sym k) (gone-jobs r p cutMoved s (i + 1) i (at l i .period) (λ z. omega arith) (rs .period i (omega arith)) (back .each i (omega arith) (omega arith)))
+        let k : jobAt cutMoved i ≡ backJob l p m i = other (2 * i) (λ z. omega arith) ∙ st .all .back-jobs i (omega arith) (omega arith) in
+        rw (f .0, sym k) (gone-jobs r p cutMoved s (i + 1) i (at l i .period) (λ z. omega arith) (rs .all .period i (omega arith)) (back .each i (omega arith) (omega arith)))
 
     back-stands : (i : ℕ) → i < p → (backJob l p (m + 1) i ≡ jobAt s i) × (backTicks l p (m + 1) i % at l i .period ≡ restAt s i)
     back-stands i u = back-one i u (back-moves (p - (i + 1)) (i + 1) (omega arith))
@@ -139,10 +137,10 @@ module _ (l : List Task) (ok : Sound l) (p : ℕ) (h : p < length l) (m : ℕ) (
     -- ---- the places after the cut, which stand in s as they stood
 
     stood-job : (c : ℕ) → p ≤ c → c + 1 < length l → jobAt s (c + 1) ≡ onJob l p m (c + 1)
-    stood-job c u v = back .high (2 * (c + 1)) (omega arith) ∙ other (2 * (c + 1)) (λ z. omega arith) ∙ st .on-jobs c u v
+    stood-job c u v = back .high (2 * (c + 1)) (omega arith) ∙ other (2 * (c + 1)) (λ z. omega arith) ∙ st .all .on-jobs c u v
 
     stood-rest : (c : ℕ) → p ≤ c → c + 1 < length l → restAt s (c + 1) ≡ onTicks l p m c % at l (c + 1) .period
-    stood-rest c u v = back .high (2 * (c + 1) + 1) (omega arith) ∙ other (2 * (c + 1) + 1) (λ z. omega arith) ∙ st .on-rests c u v
+    stood-rest c u v = back .high (2 * (c + 1) + 1) (omega arith) ∙ other (2 * (c + 1) + 1) (λ z. omega arith) ∙ st .all .on-rests c u v
 
     on-fits : writeOf (at l p) (m + 1) ≤ 1000000000000 → (i : ℕ) → p ≤ i → i < length l → onJob l p m i ≤ 2000000000000
     on-fits top i u v = omega (arith, job-small (at l i) (ok .each i v .period-pos) (onJob l p m i), forward-fits l ok p i u v (m + 1))
@@ -176,31 +174,35 @@ module _ (l : List Task) (ok : Sound l) (p : ℕ) (h : p < length l) (m : ℕ) (
           let n : onTicks l p (m + 1) c ≡ onTicks l p m c + gone r p s new c
           = write-later (at l c) (onJob l p m c) (onJob l p (m + 1) c) (at l (c + 1) .phase) (at l (c + 1) .period - 1) (gone r p s new c) ih (a .0) in
           let q =
-          goes-on r p s new c (c + 1) (onTicks l p m c) (onTicks l p (m + 1) c) (at l (c + 1) .period) (ok .each (c + 1) v .period-pos) (rs .period (c + 1) v) (on-goes c u v) (stood-job c u v ∙ a .1) (stood-rest c u v) n in
+          goes-on r p s new c (c + 1) (onTicks l p m c) (onTicks l p (m + 1) c) (at l (c + 1) .period) (ok .each (c + 1) v .period-pos) (rs .all .period (c + 1) v) (on-goes c u v) (stood-job c u v ∙ a .1) (stood-rest c u v) n in
           (b .1 ∙ q .0, q .1)
 
       on-moves : (d : ℕ) → p + d < length l → onJob l p (m + 1) (p + d) * at l (p + d) .period ≡ onJob l p m (p + d) * at l (p + d) .period + gone r p s new (p + d)
       on-moves zero v =
           let q : p + 0 ≡ p = omega arith in
-          rw (q, on-self l p (m + 1), on-self l p m, sym (gone-cut r p s new (on .low (2 * p) (omega arith)))) (omega (arith, cut-goes, add-mul (m + 1) 1 (at l p .period), rs .period p h))
+          rw (q, on-self l p (m + 1), on-self l p m, sym (gone-cut r p s new (on .low (2 * p) (omega arith)))) (omega (arith, cut-goes, add-mul (m + 1) 1 (at l p .period), rs .all .period p h))
       on-moves (suc d) v =
           let q : p + suc d ≡ p + d + 1 = omega arith in
           let f = on-one (p + d) (omega arith) (omega arith) (on-moves d (omega arith)) in
           rw (q, f .0, sym (stood-job (p + d) (omega arith) (omega arith)))
-          (gone-jobs r p s new (p + d) (p + d + 1) (at l (p + d + 1) .period) (λ z. omega arith) (rs .period (p + d + 1) (omega arith)) (on-goes (p + d) (omega arith) (omega arith)))
+          (gone-jobs r p s new (p + d) (p + d + 1) (at l (p + d + 1) .period) (λ z. omega arith) (rs .all .period (p + d + 1) (omega arith)) (on-goes (p + d) (omega arith) (omega arith)))
 
       on-stands : (c : ℕ) → p ≤ c → c + 1 < length l → (onJob l p (m + 1) (c + 1) ≡ jobAt new (c + 1)) × (onTicks l p (m + 1) c % at l (c + 1) .period ≡ restAt new (c + 1))
       on-stands c u v = let q : p + (c - p) ≡ c = omega arith in on-one c u v (rw q at (on-moves (c - p) (omega arith)))
 
-      -- The state stands at the next job.
-      pub stands-on : Standing l p (m + 1) new
-      stands-on = record {
+      -- Where the cut's job is the next one, the state stands at it.
+      pub stands-on : v ≡ m + 1 → Standing l p (m + 1) new
+      stands-on is = record {
         long = omega (arith, st .long, cut-long, back .long, on .long);
-        back-jobs = λ i u. elim (decLt i p) [
-          | yes k ↦ on .low (2 * i) (omega arith) ∙ sym (back-stands i k .0)
-          | no k ↦ let e : i ≡ p = omega arith in rw e (on .low (2 * p) (omega arith) ∙ back .high (2 * p) (omega arith) ∙ cut-job ∙ sym (back-self l p (m + 1)))
-        ];
-        back-rests = λ i u. on .low (2 * i + 1) (omega arith) ∙ sym (back-stands i u .1);
-        on-jobs = λ c u v. sym (on-stands c u v .0);
-        on-rests = λ c u v. sym (on-stands c u v .1);
+        all = record {
+          back-jobs = λ i a u. elim (decLt i p) [
+            | yes k ↦ on .low (2 * i) (omega arith) ∙ sym (back-stands i k .0)
+            | no k ↦
+                let e : i ≡ p = omega arith in
+                rw e (on .low (2 * p) (omega arith) ∙ back .high (2 * p) (omega arith) ∙ getD-set-same old (2 * p) v 0 (omega (arith, st .long)) ∙ is ∙ sym (back-self l p (m + 1)))
+          ];
+          back-rests = λ i a u. on .low (2 * i + 1) (omega arith) ∙ sym (back-stands i u .1);
+          on-jobs = λ c u w. sym (on-stands c u w .0);
+          on-rests = λ c u w. sym (on-stands c u w .1);
+        };
       }

@@ -1,11 +1,12 @@
 -- Whole periods without a division: a factor and a shift that were made once for a period (Granlund and Montgomery, "Division by Invariant Integers using Multiplication", 1994).
-use Prim.Native.Nat.{ℕ, zero, suc, _+_, _*_, _/_, _^_, _≤_, _<_}
+use Prim.Native.Nat.{ℕ, suc, _+_, _*_, _/_, _^_, _≤_, _<_}
 use native.Mathlib.Omega.{arith}
 use native.Mathlib.Nat.{mul-assoc, mul-add, mul-right-comm, suc-mul, mul-le-mul-left, mul-le-mul-right, lt-of-mul-lt-mul-right, div-mul-le-self, div-lt-iff-lt-mul, lt-suc-self, div-eq-of-lt-le}
 use native.Mathlib.Numerals.{add-one}
-use mathlib.Core.Path.{_≡_, sym, ap, _∙_, subst}
+use mathlib.Core.Path.{_≡_, sym, _∙_, subst}
 
--- The factor over 2 ^ shift is 1 / t and at most 1 / 2 ^ shift more. With 2 ^ 24 below 2 ^ shift / t that is near enough for numbers below 2 ^ 24, which are 16,777,216.
+-- The factor over 2 ^ shift is 1 / t and at most 1 / 2 ^ shift more. With 2 ^ 24 at most 2 ^ shift / t that is near enough for numbers below 2 ^ 24, which is 16,777,216: twelve periods
+-- have at most 12,000,000 ticks. A factor up to 20,000,000,000 keeps the product of the two far within 64 bits.
 pub record Reciprocal (t factor shift : ℕ) : Type 0 where
   pub some : 1 ≤ t
   pub low : 2 ^ shift ≤ factor * t

@@ -8,11 +8,10 @@ use mathlib.Core.Logic.{_≢_}
 use mathlib.Core.Bool.{cond}
 use mathlib.Core.List.{List}
 use lib.Dec.{eqb}
-use lib.ListN.{length, getD, set, length-set}
-use lib.Seq.{getD-set-same, getD-set-other}
+use lib.ListN.{length, getD}
 use borrow.Author.Tests.{eq-eqb, ne-eqb}
 use Rattle.stepping.specs.Reciprocal.{Reciprocal}
-use Rattle.stepping.specs.Steps.{periodAt, factorAt, shiftAt, jobAt, restAt, Advanced, Roomy}
+use Rattle.stepping.specs.OnePlace.{periodAt, factorAt, shiftAt, jobAt, restAt, Advanced, Roomy, stored-other, stored-long, stored-job, stored-rest}
 
 -- The ticks that the cut p goes on by, which is one period; the loops over the other places find it moved.
 unfoldable pub cutTicks : List ℕ → ℕ → ℕ → ℕ
@@ -79,18 +78,10 @@ module _ (r : List ℕ) (p : ℕ) (c : ℕ → ℕ) (old mid new : List ℕ) (i 
   left = (restAt mid i + ticks) % periodAt r i
 
   kept : (x : ℕ) → x ≢ 2 * i → x ≢ 2 * i + 1 → getD new x 0 ≡ getD mid x 0
-  kept x h g = ap (λ (s : List ℕ). getD s x 0) (ad .stored) ∙ getD-set-other (set mid (2 * i) (jobAt mid i + jobs)) (2 * i + 1) x left 0 g ∙ getD-set-other mid (2 * i) x (jobAt mid i + jobs) 0 h
+  kept = stored-other mid new i (jobAt mid i + jobs) left (ad .stored)
 
   new-job : jobAt new i ≡ jobAt mid i + jobs
-  new-job =
-      ap (λ (s : List ℕ). getD s (2 * i) 0) (ad .stored) ∙ getD-set-other (set mid (2 * i) (jobAt mid i + jobs)) (2 * i + 1) (2 * i) left 0 (λ q. omega arith)
-      ∙ getD-set-same mid (2 * i) (jobAt mid i + jobs) 0 (omega arith)
-
-  new-rest : restAt new i ≡ left
-  new-rest = ap (λ (s : List ℕ). getD s (2 * i + 1) 0) (ad .stored) ∙ getD-set-same (set mid (2 * i) (jobAt mid i + jobs)) (2 * i + 1) left 0 (omega (arith, length-set mid (2 * i) (jobAt mid i + jobs)))
-
-  new-long : length new ≡ length mid
-  new-long = ap length (ad .stored) ∙ length-set (set mid (2 * i) (jobAt mid i + jobs)) (2 * i + 1) left ∙ length-set mid (2 * i) (jobAt mid i + jobs)
+  new-job = stored-job mid new i (jobAt mid i + jobs) left (ad .stored) room
 
   module _ (stood : jobAt mid i ≡ jobAt old i) (apart : i ≢ p) where
     -- the call's answer is how far the place went on
@@ -105,14 +96,14 @@ module _ (r : List ℕ) (p : ℕ) (c : ℕ → ℕ) (old mid new : List ℕ) (i 
         = ap (λ (y : ℕ). (y - jobAt old (c i)) * periodAt r (c i) + cutTicks r p (c i)) (kept (2 * c i) (λ q. other (omega arith)) (λ q. omega arith)) ∙ sym k in
         record {
           job = rw (j, sym rest) (omega (arith, new-job, stood));
-          rest = rw (j, sym rest) new-rest;
+          rest = rw (j, sym rest) (stored-rest mid new i (jobAt mid i + jobs) left (ad .stored) room);
         }
 
     -- the places from a to b − 1 become those from a′ to b′ − 1
     pub went-more : (a b a′ b′ : ℕ) → Went r p c a b old mid → restAt mid i ≡ restAt old i → ticks ≡ gone r p old mid (c i) → a′ ≤ i → i < b′ → a′ ≤ a → b ≤ b′
         → ((x : ℕ) → a′ ≤ x → x < b′ → x ≢ i → (a ≤ x) × (x < b)) → ((x : ℕ) → a′ ≤ x → x < b′ → c x ≢ i) → Went r p c a′ b′ old new
     went-more a b a′ b′ w rest k la lb wa wb in-row aside = record {
-      long = new-long ∙ w .long;
+      long = stored-long mid new i (jobAt mid i + jobs) left (ad .stored) ∙ w .long;
       each = λ x l u. elim (ℕ-discrete x i) [
         | yes q ↦ rw q (went-goes rest (aside i la lb) k)
         | no q ↦
@@ -125,7 +116,7 @@ module _ (r : List ℕ) (p : ℕ) (c : ℕ → ℕ) (old mid new : List ℕ) (i 
 
 -- ---- ranges
 
--- there is room for the move; s has the place's entries as they were
+-- there is room for the move: a rest is below 1,000,000, and no more than twelve periods come together; s has the place's entries as they were
 pub roomy : (r s state : List ℕ) (i ticks : ℕ) → Place r state i → ticks ≤ 12000000 → i < 12 → 3 * i + 3 ≤ length r → 2 * i + 2 ≤ length s → jobAt s i ≡ jobAt state i → restAt s i ≡ restAt state i → Roomy r s i ticks
 roomy r s state i ticks pl bound few cl sl j q = record {
   few = few;

@@ -4,12 +4,13 @@ use partition::Partition;
 use task::Job;
 use task::Task;
 use task::Tick;
+ghost use mathlib.Core.Path.{_≡_};
 ghost use Prim.Native.Nat.{_+_, _-_, _≤_, _<_};
 ghost use Rattle.chain.specs.Flat.{tasksIn};
 ghost use Rattle.partition.specs.Partitions.{IsPartition};
-ghost use Rattle.stepping.specs.Steps.{jobAt, Advanced, Roomy};
+ghost use Rattle.stepping.specs.OnePlace.{jobAt, Advanced, Roomy};
 ghost use Rattle.stepping.specs.Went.{Went, Ready};
-ghost use Rattle.stepping.specs.Standing.{Stands, Steps, Stepped, EndJob};
+ghost use Rattle.stepping.specs.Standing.{Stands, Steps, Stepped, endJob};
 
 // Place i moves on where its neighbour on the way from the cut went on by `ticks`; answers the ticks that it went on by itself.
 // The product and the shift give the whole periods: a multiplication and a shift stand for the division.
@@ -57,7 +58,7 @@ fn step_on(reciprocals: &[u64], n: usize, p: usize, state: &mut [u64])
 // The job at the end, given the cut's job and the last place's.
 fn end_job(n: usize, p: usize, here: u64, last: u64) -> u64
     requires { ⌜ (p < 12) × (here ≤ 1000000000000) ⌝ }
-    ensures { λ r. ⌜ EndJob n p here last r ⌝ }
+    ensures { λ r. ⌜ r ≡ endJob n p here last ⌝ }
 {
     if p + 1 < n {
         return last;

@@ -1,10 +1,10 @@
 use native.Mathlib.Omega.{arith}
-use Prim.Native.Nat.{_+_, _-_, _≤_, _<_}
-use mathlib.Core.Path.{_≡_, refl, sym, _∙_}
+use Prim.Native.Nat.{_-_}
+use mathlib.Core.Path.{_≡_, refl, _∙_}
 use lib.ListN.{length}
 use Rattle.chain.specs.Flat.{tasksIn}
 use Rattle.maker.proofs.Turn.{going-first, going-second}
-use Rattle.maker.proofs.Walking.{Walking, walking-start, walking-adds, walking-steps, walking-turn, walking-end, walking-stands}
+use Rattle.maker.proofs.Walking.{Walking, walking-start, walking-adds, walking-steps, walking-turn, walking-end, walking-leaves}
 use Rattle.maker.proofs.walk.Statement.{statement}
 use Rattle.maker.proofs.walk.Tie as tie
 
@@ -65,7 +65,7 @@ returns c =
     let s = c .before .before .before .before .before .before .before .before .before .before .before .before .before .before in
     let l = c .before .before .before .before .before .before .before .before in (
       walking-end (tasksIn (s .args .tasks .now)) (s .args .places) (s .args .p) (s .args .n) (s .args .first) (s .args .after .0) (s .args .state .now) (s .pre .0) _ _ _ _ _ _ _ _ _ (l .loop .inv .1) (c .before .before .before .before .before .before .before .loop-test .left) _ _ _ (c .before .before .before .before .add-anchor2 .ensures) _ refl refl,
-      walking-stands (tasksIn (s .args .tasks .now)) (s .args .places) (s .args .p) (s .args .n) (s .args .first) (s .args .after .0) (s .args .state .now) (s .pre .0) _ _ _ _ _ _ _ _ _ (l .loop .inv .1) (c .before .before .before .before .before .before .before .loop-test .left),
+      walking-leaves (tasksIn (s .args .tasks .now)) (s .args .places) (s .args .p) (s .args .n) (s .args .first) (s .args .after .0) (s .args .state .now) (s .pre .0) _ _ _ _ _ _ _ _ _ (l .loop .inv .1) (c .before .before .before .before .before .before .before .loop-test .left),
     )
 
 pub walk-spec : {M : Type 1} → statement M

@@ -1,11 +1,11 @@
 use native.Mathlib.Omega.{arith}
-use Prim.Native.Nat.{_+_, _-_, _≤_}
+use Prim.Native.Nat.{_-_, _≤_}
 use mathlib.Core.Path.{_≡_, refl, ap, _∙_}
 use lib.ListN.{length}
 use Rattle.task.specs.declared.Task.{Task}
 use Rattle.chain.specs.Flat.{tasksIn}
-use Rattle.outset.specs.Outset.{GivenTo}
-use Rattle.outset.specs.Filling.{given-more, given-whole}
+use Rattle.stepping.specs.Standing.{GivenTo}
+use Rattle.outset.specs.Filling.{given-more}
 use Rattle.outset.proofs.reciprocals_of.Statement.{statement}
 use Rattle.outset.proofs.reciprocals_of.Tie as tie
 
@@ -49,7 +49,7 @@ returns c =
     let s = c .before .before .before .before in
     let l = c .before .loop in
     let e : l .i ≡ length (tasksIn (s .args .tasks .now)) = omega (arith, l .inv .0, c .loop-test .left, s .pre .1) in
-    given-whole _ _ (omega (arith, s .pre .1, s .pre .2, l .inv .1)) (rw e at (l .inv .2))
+    record { long = omega (arith, s .pre .1, s .pre .2, l .inv .1); all = rw e at (l .inv .2) }
 
 pub reciprocals-of-spec : {M : Type 1} → statement M
 reciprocals-of-spec =

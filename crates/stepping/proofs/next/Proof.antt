@@ -1,4 +1,5 @@
 use native.Mathlib.Omega.{arith}
+use mathlib.Core.Path.{refl}
 use Rattle.chain.specs.Flat.{tasksIn}
 use Rattle.stepping.proofs.Step.{job-fits-on, back-fit, on-fit, here-fit, same-long, stepped}
 use borrow.Author.Needs.{needs}
@@ -21,19 +22,19 @@ slice-write-state : tie.Need-slice-write-state
 slice-write-state c = search needs
 
 step-back-requires : tie.Need-step-back-requires
-step-back-requires c κs = let s = c .before .before .before .before .before in back-fit (tasksIn (s .args .tasks .now)) (s .args .n) (s .args .p) (s .args .reciprocals .now) (s .args .state .now) (s .pre)
+step-back-requires c κs = let s = c .before .before .before .before .before in back-fit (tasksIn (s .args .tasks .now)) (s .args .n) (s .args .p) (s .args .reciprocals .now) (s .args .state .now) (s .pre) _
 
 step-on-requires : tie.Need-step-on-requires
-step-on-requires c κs = let s = c .before .before .before .before .before .before .before .before .before in (s .pre .inside, on-fit (tasksIn (s .args .tasks .now)) (s .args .n) (s .args .p) (s .args .reciprocals .now) (s .args .state .now) (s .pre) _ (c .before .before .before .step-back .ensures))
+step-on-requires c κs = let s = c .before .before .before .before .before .before .before .before .before in (s .pre .at-job .inside, on-fit (tasksIn (s .args .tasks .now)) (s .args .n) (s .args .p) (s .args .reciprocals .now) (s .args .state .now) (s .pre) _ _ (c .before .before .before .step-back .ensures))
 
 here-requires : tie.Need-here-requires
-here-requires c κs = let s = c .before .before .before .before .before .before .before .before .before .before .before .before .before in here-fit (tasksIn (s .args .tasks .now)) (s .args .n) (s .args .p) (s .args .reciprocals .now) (s .args .state .now) (s .pre) _ (c .before .before .before .before .before .before .before .step-back .ensures) _ (c .before .before .before .step-on .ensures)
+here-requires c κs = let s = c .before .before .before .before .before .before .before .before .before .before .before .before .before in here-fit (tasksIn (s .args .tasks .now)) (s .args .n) (s .args .p) (s .args .reciprocals .now) (s .args .state .now) (s .pre) _ _ (c .before .before .before .before .before .before .before .step-back .ensures) _ (c .before .before .before .step-on .ensures) refl
 
 same-length : tie.Need-same-length
-same-length c = let s = c .before .before .before .before .before .before .before .before .before .before .before .before .before .before in same-long (tasksIn (s .args .tasks .now)) (s .args .n) (s .args .p) (s .args .reciprocals .now) (s .args .state .now) (s .pre) _ (c .before .before .before .before .before .before .before .before .step-back .ensures) _ (c .before .before .before .before .step-on .ensures)
+same-length c = let s = c .before .before .before .before .before .before .before .before .before .before .before .before .before .before in same-long (tasksIn (s .args .tasks .now)) (s .args .n) (s .args .p) (s .args .reciprocals .now) (s .args .state .now) (s .pre) _ _ (c .before .before .before .before .before .before .before .before .step-back .ensures) _ (c .before .before .before .before .step-on .ensures)
 
 returns : tie.Need-returns
-returns c = let s = c .before .before .before .before .before .before .before .before .before .before .before .before .before .before in stepped (tasksIn (s .args .tasks .now)) (s .args .n) (s .args .p) (s .args .reciprocals .now) (s .args .state .now) (s .pre) _ (c .before .before .before .before .before .before .before .before .step-back .ensures) _ (c .before .before .before .before .step-on .ensures) _ (c .here .ensures)
+returns c = let s = c .before .before .before .before .before .before .before .before .before .before .before .before .before .before in stepped (tasksIn (s .args .tasks .now)) (s .args .n) (s .args .p) (s .args .reciprocals .now) (s .args .state .now) (s .pre) _ _ (c .before .before .before .before .before .before .before .before .step-back .ensures) _ (c .before .before .before .before .step-on .ensures) refl _ (c .here .ensures)
 
 pub next-spec : {M : Type 1} → statement M
 next-spec =

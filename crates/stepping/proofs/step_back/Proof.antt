@@ -1,6 +1,6 @@
 use native.Mathlib.Omega.{arith}
 use Prim.Native.Nat.{_+_, _-_}
-use mathlib.Core.Path.{_≡_, sym}
+use mathlib.Core.Path.{_≡_}
 use borrow.Author.Needs.{needs}
 use Rattle.stepping.proofs.Turns.{BackTo, back-start, back-room, back-turn}
 use Rattle.stepping.proofs.step_back.Statement.{statement}
