@@ -31,11 +31,12 @@
  * places; the calls on files one over the bytes.
  * mo_make_table walks h / T partitions, T being the period at the place of the cut, and a partition costs each place once: with h 60,000,000
  * and twelve places 0.015 ms where the longest period, 78,125, is cut at, and 0.9 s at a place of period 1. Cut at the longest period no
- * chain has more than 3,063,060 partitions, which take 0.05 s. It divides only before the second partition, some 90 times at twelve places;
- * from there on a place takes two multiplications and a shift, so it is for processors without a divider too. mo_windows makes at most 2 * (h / T + k - 1) walks, T being the first place's period: 0.06 ms
- * to 4.7 s for these chains. mo_report makes one table for each chain, cut at the longest period: at most 0.1 s a chain. mo_bookings goes
- * once through the common hyperperiod, from one change of a booking to the next, and a change costs each place of its chain twice: 0.5 s
- * for one place of period 1 beside 768 and 78,125, and at the worst, twelve places of period 1 beside 16, 9, 5, 7, 11, 23 and 47, 10 s.
+ * chain has more than 3,063,060 partitions, which take 0.05 s at twelve places. The call divides only before the second partition, some 90
+ * times at twelve places; from there on a partition takes two multiplications and a shift at each place. mo_windows makes at most
+ * 2 * (h / T + k - 1) walks, T being the first place's period: 0.06 ms to 4.7 s for these chains. mo_report makes one table for each chain,
+ * cut at the longest period: at most 0.1 s a chain. mo_bookings goes once through the common hyperperiod, from one change of a booking to
+ * the next, and a change costs each place of its chain twice: 0.5 s for one place of period 1 beside 768 and 78,125, and at the worst,
+ * twelve places of period 1 beside 16, 9, 5, 7, 11, 23 and 47, 10 s.
  * (One run on a server's processor; an instrument's takes longer.) Nothing else that is lent makes a call take long.
  *
  * Stack. What each call needs below its caller's frame, in bytes, is MO_STACK_ below: measured on x86-64 and rounded up, not proved. The C
