@@ -117,10 +117,10 @@ module _ (t : List Task) (places p m n after : ℕ) (f : Fills t places p m n af
   }
 
   -- where there is one partition alone its anchor is all
-  pub fill-one : n < 2 → (state : List ℕ) (x : Partition) → First t p m state x → (s l s′ l′ : List ℕ) (g : ℕ) → Added x after 0 0 s l s′ l′ g → (k : Count) → k .anchors ≡ g → k .walked ≡ 1 → Filled t p m n s l s′ l′ k
-  fill-one few state x fi s l s′ l′ g ad k ka kw =
+  pub fill-one : n < 2 → (state : List ℕ) (x : Partition) → First t p m state x → (s l s′ l′ : List ℕ) (g : ℕ) → Added x after 0 0 s l s′ l′ g → (c : Count) → c .anchors ≡ g → c .walked ≡ 1 → Filled t p m n s l s′ l′ c
+  fill-one few state x fi s l s′ l′ g ad c anchors counted =
       let b = fill-begins state x fi in
-      rw (fi .partition .of) at (walking-end t places p n x after state b s l state s l 1 0 0 x (walking-start t places p n x after state b s l) (omega arith) g s′ l′ ad k ka kw)
+      rw (fi .partition .of) at (walking-end t places p n x after state b s l state s l 1 0 0 x (walking-start t places p n x after state b s l) (omega arith) g s′ l′ ad c anchors counted)
 
   pub fill-adds : (state : List ℕ) (x : Partition) → First t p m state x → (x .start .0 ≤ x .end .0) × (0 ≤ 60000000)
   fill-adds state x fi = let b = fill-begins state x fi in walking-adds t places p n x after state b [] [] state [] [] 1 0 0 x (walking-start t places p n x after state b [] [])

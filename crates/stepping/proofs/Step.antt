@@ -19,24 +19,23 @@ module _ (l : List Task) (n p : ℕ) (r s : List ℕ) (k : Steps l n p r s) wher
   pub job-fits-on : jobAt s p + 1 ≤ 1000000000000
   job-fits-on = omega (arith, job-fits l (k .at-job .sound) p (cut-in l n p s (k .at-job)) (jobAt s p + 1 + 1), k .top)
 
-  -- v is what the code put at the cut
-  module _ (v : ℕ) where
-    pub back-fit : Ready r p (set s (2 * p) v) 0 p
+  module _ (cutJob : ℕ) where
+    pub back-fit : Ready r p (set s (2 * p) cutJob) 0 p
     back-fit =
-        back-ready l (k .at-job .sound) p (cut-in l n p s (k .at-job)) (jobAt s p) (k .at-job .warm) r (k .constants) s (k .at-job .stands) v
+        back-ready l (k .at-job .sound) p (cut-in l n p s (k .at-job)) (jobAt s p) (k .at-job .warm) r (k .constants) s (k .at-job .stands) cutJob
         (omega (arith, k .at-job .top, read-mono (at l p) (jobAt s p) (jobAt s p + 1) (omega arith)))
 
-    module _ (s₂ : List ℕ) (back : Went r p (λ x. x + 1) 0 p (set s (2 * p) v) s₂) where
+    module _ (s₂ : List ℕ) (back : Went r p (λ x. x + 1) 0 p (set s (2 * p) cutJob) s₂) where
       pub on-fit : Ready r p s₂ (p + 1) n
-      on-fit = rw (k .at-job .places) (on-ready l (k .at-job .sound) p (cut-in l n p s (k .at-job)) (jobAt s p) (k .at-job .warm) r (k .constants) s (k .at-job .stands) v s₂ back (k .at-job .top))
+      on-fit = rw (k .at-job .places) (on-ready l (k .at-job .sound) p (cut-in l n p s (k .at-job)) (jobAt s p) (k .at-job .warm) r (k .constants) s (k .at-job .stands) cutJob s₂ back (k .at-job .top))
 
       module _ (s₃ : List ℕ) (on : Went r p (λ x. x - 1) (p + 1) n s₂ s₃) where
         pub same-long : length s₃ ≡ length s
-        same-long = on .long ∙ back .long ∙ length-set s (2 * p) v
+        same-long = on .long ∙ back .long ∙ length-set s (2 * p) cutJob
 
-        module _ (is : v ≡ jobAt s p + 1) where
+        module _ (is : cutJob ≡ jobAt s p + 1) where
           stands-next : Standing l p (jobAt s p + 1) s₃
-          stands-next = stands-on l (k .at-job .sound) p (cut-in l n p s (k .at-job)) (jobAt s p) (k .at-job .warm) r (k .constants) s (k .at-job .stands) v s₂ back s₃ (rw (k .at-job .places) at on) is
+          stands-next = stands-on l (k .at-job .sound) p (cut-in l n p s (k .at-job)) (jobAt s p) (k .at-job .warm) r (k .constants) s (k .at-job .stands) cutJob s₂ back s₃ (rw (k .at-job .places) at on) is
 
           job-next : jobAt s₃ p ≡ jobAt s p + 1
           job-next = stands-next .all .back-jobs p (omega arith) (omega arith) ∙ back-self l p (jobAt s p + 1)

@@ -26,9 +26,9 @@ use Rattle.chain.specs.GaloisPair.{forward-mono, backward-mono}
 use Rattle.timing.specs.WarmUp.{warmAt, warmTick}
 use Rattle.timing.specs.WarmLaws.{found, at-least-job}
 use Rattle.timing.specs.Period.{backward-repeats, Repeats, hyper-repeats}
+use Rattle.partition.specs.declared.Partition.{Partition}
 use Rattle.partition.specs.Partitions.{startOf}
 use Rattle.stepping.specs.OnePlace.{jobAt}
-use Rattle.partition.specs.declared.Partition.{Partition}
 use Rattle.stepping.specs.Standing.{backJob, onJob, Standing, Stepped}
 use Rattle.stepping.specs.Onward.{back-self}
 use Rattle.stepping.specs.Ways.{found-is, between, warm-between, back-is, on-late}

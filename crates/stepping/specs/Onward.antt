@@ -52,18 +52,18 @@ pub on-self : (l : List Task) (p m : ℕ) → onJob l p m p ≡ m + 1
 unfolding forwardBy
 on-self l p m = let a : p - p ≡ 0 = omega arith in rw a
 
--- ---- all places: first the cut by one, then those before it, then those after it
+-- ---- all places: first the cut, then those before it, then those after it
 
-module _ (l : List Task) (ok : Sound l) (p : ℕ) (h : p < length l) (m : ℕ) (g : warmAt l p ≤ m) (r : List ℕ) (rs : Reciprocals l r) (old : List ℕ) (st : Standing l p m old) (v : ℕ) where
-  -- the places beside the cut move on whatever stands at the cut
+module _ (l : List Task) (ok : Sound l) (p : ℕ) (h : p < length l) (m : ℕ) (g : warmAt l p ≤ m) (r : List ℕ) (rs : Reciprocals l r) (old : List ℕ) (st : Standing l p m old) (cutJob : ℕ) where
+  -- the places beside the cut move on whatever job is put there
   abbrev pub cutMoved : List ℕ
-  cutMoved = set old (2 * p) v
+  cutMoved = set old (2 * p) cutJob
 
   other : (x : ℕ) → (x ≡ 2 * p → ⊥) → getD cutMoved x 0 ≡ getD old x 0
-  other x u = getD-set-other old (2 * p) x v 0 u
+  other x u = getD-set-other old (2 * p) x cutJob 0 u
 
   cut-long : length cutMoved ≡ length old
-  cut-long = length-set old (2 * p) v
+  cut-long = length-set old (2 * p) cutJob
 
   later : warmAt l p ≤ m + 1
   later = omega arith
@@ -191,7 +191,7 @@ module _ (l : List Task) (ok : Sound l) (p : ℕ) (h : p < length l) (m : ℕ) (
       on-stands c u v = let q : p + (c - p) ≡ c = omega arith in on-one c u v (rw q at (on-moves (c - p) (omega arith)))
 
       -- Where the cut's job is the next one, the state stands at it.
-      pub stands-on : v ≡ m + 1 → Standing l p (m + 1) new
+      pub stands-on : cutJob ≡ m + 1 → Standing l p (m + 1) new
       stands-on is = record {
         long = omega (arith, st .long, cut-long, back .long, on .long);
         all = record {
@@ -199,7 +199,7 @@ module _ (l : List Task) (ok : Sound l) (p : ℕ) (h : p < length l) (m : ℕ) (
             | yes k ↦ on .low (2 * i) (omega arith) ∙ sym (back-stands i k .0)
             | no k ↦
                 let e : i ≡ p = omega arith in
-                rw e (on .low (2 * p) (omega arith) ∙ back .high (2 * p) (omega arith) ∙ getD-set-same old (2 * p) v 0 (omega (arith, st .long)) ∙ is ∙ sym (back-self l p (m + 1)))
+                rw e (on .low (2 * p) (omega arith) ∙ back .high (2 * p) (omega arith) ∙ getD-set-same old (2 * p) cutJob 0 (omega (arith, st .long)) ∙ is ∙ sym (back-self l p (m + 1)))
           ];
           back-rests = λ i a u. on .low (2 * i + 1) (omega arith) ∙ sym (back-stands i u .1);
           on-jobs = λ c u w. sym (on-stands c u w .0);
