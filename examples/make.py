@@ -3,8 +3,9 @@
     python3 examples/make.py
 
 A description has a line `task NUMBER PERIOD DURATION PHASE` for each task, in rising order of numbers and with times in microseconds,
-then a line `chain NUMBER NUMBER ..` for each of its one to four chains, which are numbered in this order. Lines that begin with `#` are
-remarks. What stands after the line `report` is what chainreport prints for the file.
+then a line `chain NUMBER NUMBER ..` for each of its one to four chains, which are numbered in this order, then a line `gap TICKS` where a
+value becomes readable so many ticks after its write. Lines that begin with `#` are remarks. What stands after the line `report` is what
+chainreport prints for the file.
 """
 import glob
 import os
@@ -28,6 +29,10 @@ def chain_record(places):
     return record(2, b"".join(number(task, 2) for task in places))
 
 
+def gap_record(ticks):
+    return record(4, number(ticks, 2))
+
+
 END = record(3, b"")
 
 
@@ -40,7 +45,7 @@ def described(text):
         if not words or line.startswith("#"):
             continue
         numbers = [int(word) for word in words[1:]]
-        data += {"task": lambda: task_record(*numbers), "chain": lambda: chain_record(numbers)}[words[0]]()
+        data += {"task": lambda: task_record(*numbers), "chain": lambda: chain_record(numbers), "gap": lambda: gap_record(*numbers)}[words[0]]()
     return data + END, report
 
 

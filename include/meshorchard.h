@@ -68,13 +68,13 @@ extern "C" {
 #define MO_STACK_REPORT 22848u
 
 /*
- * Refusals: the numbers of document 01, and 16 of order 1 in document 02.
+ * Refusals: the numbers of document 01, and 16 of order 1 in document 02; order 5 there adds the gap to 5.
  */
 #define MO_FILE_ENDS_EARLY 1u          /* reading a file: fewer than 4 bytes remain, or a record runs past the file */
 #define MO_RECORD_LENGTH_WRONG 2u      /* reading a file: a length below 4, or one that its kind does not have */
-#define MO_RECORD_KIND_UNKNOWN 3u      /* reading a file: the kind is not 1, 2 or 3 */
+#define MO_RECORD_KIND_UNKNOWN 3u      /* reading a file: the kind is not 1 to 4 */
 #define MO_RECORD_OUT_OF_TURN 4u       /* reading a file: a record that may not stand there, or a byte after the end */
-#define MO_TASK_OUTSIDE_LIMITS 5u      /* a task's period, duration or phase; in a file or a schedule also its number */
+#define MO_TASK_OUTSIDE_LIMITS 5u      /* a task's period, duration or phase, in a file or a schedule also its number; or the gap */
 #define MO_TASK_UNKNOWN 6u             /* a file or a schedule: a chain has a number that no task has */
 #define MO_HYPERPERIOD_TOO_LONG 7u     /* above 60,000,000: that of a chain, or the common one of two */
 #define MO_PLACES_OUTSIDE_LIMITS 8u    /* places not 1 to 12, a schedule's tasks not 1 to 32 or chains not 1 to 4, or a list does not hold them */
@@ -90,7 +90,8 @@ extern "C" {
 /*
  * Every call but mo_read_table and mo_report answers a code: 0 for a success, else a refusal's number and 256 times its place. The place is
  *   in every refusal of mo_read_file a byte offset, from 0;
- *   else, for MO_TASK_OUTSIDE_LIMITS, the task's place in the chain, and of a call on a schedule its position among the tasks, from 1;
+ *   else, for MO_TASK_OUTSIDE_LIMITS, the task's place in the chain, and of a call on a schedule its position among the tasks, from 1; 0 for
+ *   the gap;
  *   for MO_TASK_UNKNOWN the place in its own chain, from 1, whichever chain that is;
  *   else 0.
  * Each number lent to the call is written: with what the call gives, and with 0 in a refusal (MO_LISTS_TOO_SHORT of mo_make_table gives
@@ -111,7 +112,7 @@ extern "C" {
  *   h is from 1 to 60,000,000;
  *   starts[0] is at most 1,000,000,000;
  *   the g starts rise strictly and are below starts[0] + h;
- *   each of the g latencies is at most 60,000,000 and greater than the distance from its start to the next start
+ *   each of the g latencies is at most 60,011,000 and greater than the distance from its start to the next start
  *   (for the last anchor, to starts[0] + h).
  */
 
@@ -123,7 +124,7 @@ extern "C" {
  *   MO_REFUSED + MO_TABLE_NOT_WELL_FORMED   the table is not well-formed;
  *   MO_REFUSED + MO_TICK_TOO_EARLY          t is below starts[0];
  *   MO_REFUSED + MO_TICK_TOO_LATE           t is above MO_UPPER_TICK;
- *   else the delay in ticks, from 2 to 60,000,000. With u = starts[0] + (t - starts[0]) % h, it is the latency of the last anchor whose
+ *   else the delay in ticks, from 2 to 60,011,000. With u = starts[0] + (t - starts[0]) % h, it is the latency of the last anchor whose
  *   start is at most u, less (u - that start).
  *
  *     uint64_t r = mo_read_table(starts, n, latencies, n, g, h, t);
@@ -175,12 +176,18 @@ uint64_t mo_exceedance(const uint64_t *starts, size_t starts_length,
 
 /* ---- Chains ----
  *
- * A chain is the list T, D, F, T, D, F, .. of the period, duration and phase of the task at each place, and the number of places.
+ * A chain is the list T, D, F, T, D, F, .. of the period, duration and phase of the task at each place, the number of places, and its gap.
  * Entries past the places are no part of it.
+ *
+ * The gap is for boards that are linked by radio: a value becomes readable gap ticks after its write. So a job takes over the latest value
+ * that the place before wrote gap ticks or more before the job reads. The gap is 0 to 1,000, one number for every link of the chain; with 0
+ * a value is readable from the tick of its write on. The last write, the booking, has none. A chain of one place has no link: its gap is
+ * tested all the same and changes nothing.
  *
  * Each call refuses, the first that applies:
  *   MO_PLACES_OUTSIDE_LIMITS   places is not 1 to 12, tasks_length is no multiple of 3, or it is below 3 * places;
  *   MO_TASK_OUTSIDE_LIMITS     T is not 1 to 1,000,000, D not 1 to 4,000,000 or F above 1,000,000; at the lowest such place, from 1;
+ *   MO_TASK_OUTSIDE_LIMITS     gap is above 1,000; at place 0;
  *   MO_HYPERPERIOD_TOO_LONG    the least common multiple of the periods at the places is above 60,000,000;
  * mo_make_table and mo_windows go on as they say, and mo_delay and mo_age after these with
  *   MO_TICK_TOO_EARLY          the tick is below the warm-up tick for mo_delay, below the write of the last warm-up job for mo_age;
@@ -188,20 +195,20 @@ uint64_t mo_exceedance(const uint64_t *starts, size_t starts_length,
  */
 
 /* The checks of a chain, and its hyperperiod. */
-uint64_t mo_check(const uint64_t *tasks, size_t tasks_length, size_t places, uint64_t *hyperperiod);
+uint64_t mo_check(const uint64_t *tasks, size_t tasks_length, size_t places, uint64_t gap, uint64_t *hyperperiod);
 
 /*
  * Warm-up: jobs[0] to jobs[places - 1] are the jobs W1 to Wn, counted from 0, and the other entries are 0; tick is the warm-up tick, the
  * read of W1, from which on a press has a delay. All twelve entries of jobs are written.
  */
-uint64_t mo_warm_up(const uint64_t *tasks, size_t tasks_length, size_t places,
+uint64_t mo_warm_up(const uint64_t *tasks, size_t tasks_length, size_t places, uint64_t gap,
                     uint64_t jobs[12], uint64_t *tick, uint64_t *hyperperiod);
 
 /* Walking: the delay of a press at tick t, up to the write of the last place. */
-uint64_t mo_delay(const uint64_t *tasks, size_t tasks_length, size_t places, uint64_t t, uint64_t *delay);
+uint64_t mo_delay(const uint64_t *tasks, size_t tasks_length, size_t places, uint64_t gap, uint64_t t, uint64_t *delay);
 
 /* Ageing: how old at tick z the newest reading is that has come through the chain. */
-uint64_t mo_age(const uint64_t *tasks, size_t tasks_length, size_t places, uint64_t z, uint64_t *age);
+uint64_t mo_age(const uint64_t *tasks, size_t tasks_length, size_t places, uint64_t gap, uint64_t z, uint64_t *age);
 
 /*
  * Making: the table of a chain cut at place p, p counted from 1. The anchors do not depend on p; the work does, and is least at the place
@@ -221,7 +228,7 @@ uint64_t mo_age(const uint64_t *tasks, size_t tasks_length, size_t places, uint6
  *   MO_LISTS_TOO_SHORT      the lists are shorter than g: they then hold the first anchors that fit, and figures is as in a success.
  * Every other refusal leaves the lists as they were, with zeros in figures.
  */
-uint64_t mo_make_table(const uint64_t *tasks, size_t tasks_length, size_t places, size_t p,
+uint64_t mo_make_table(const uint64_t *tasks, size_t tasks_length, size_t places, uint64_t gap, size_t p,
                        uint64_t *starts, size_t starts_length,
                        uint64_t *latencies, size_t latencies_length, uint64_t figures[4]);
 
@@ -236,17 +243,19 @@ uint64_t mo_make_table(const uint64_t *tasks, size_t tasks_length, size_t places
  * Refuses, after the chain's own refusals:
  *   MO_WINDOW_OUTSIDE_LIMITS   k is not 1 to 100.
  */
-uint64_t mo_windows(const uint64_t *tasks, size_t tasks_length, size_t places, uint64_t b, uint64_t k,
+uint64_t mo_windows(const uint64_t *tasks, size_t tasks_length, size_t places, uint64_t gap, uint64_t b, uint64_t k,
                     uint64_t *misses, uint64_t *first);
 
 /* ---- Schedules and their files ----
  *
- * A schedule has 1 to 32 tasks and 1 to 4 chains, each of 1 to 12 places. It is lent as three lists and two counts:
+ * A schedule has 1 to 32 tasks, 1 to 4 chains, each of 1 to 12 places, and one gap for all of them. It is lent as three lists, two counts
+ * and the gap:
  *   tasks    number, T, D, F, number, T, D, F, ..; count is the number of tasks;
  *   chains   the task numbers at the places of each chain, twelve entries a chain: chain 1 from entry 0 on, chain 2 from entry 12 on;
- *   places   the number of places of each chain; chain_count is the number of chains.
- * Task numbers are 1 to 65,535 and rise strictly from task to task, gaps allowed. A task may fill several places, of one chain or of
- * several, or none. Chains are numbered from 1, in their order. Entries past a count are no part of a schedule: mo_read_file makes them 0,
+ *   places   the number of places of each chain; chain_count is the number of chains;
+ *   gap      0 to 1,000: the gap of each of its chains.
+ * Task numbers are 1 to 65,535 and rise strictly from task to task; some may be left out. A task may fill several places, of one chain or
+ * of several, or none. Chains are numbered from 1, in their order. Entries past a count are no part of a schedule: mo_read_file makes them 0,
  * the other calls do not look at them. A list need not be longer than that: for one chain of two places chains may have 2 entries and
  * places 1.
  *
@@ -257,6 +266,7 @@ uint64_t mo_windows(const uint64_t *tasks, size_t tasks_length, size_t places, u
  *   MO_TASK_OUTSIDE_LIMITS     a task's number is 0, above 65,535 or not above the one before, or T is not 1 to 1,000,000, D not 1 to
  *                              4,000,000 or F above 1,000,000, of a task that fills no place too; at the lowest such task's position
  *                              among the tasks, from 1;
+ *   MO_TASK_OUTSIDE_LIMITS     gap is above 1,000; at place 0;
  *   MO_TASK_UNKNOWN            a number of a chain, which may be any, is that of no counted task; of the first chain that has one at its
  *                              lowest such place, from 1.
  * So a fault anywhere in the schedule refuses every chain of it. The hyperperiod of a chain is no such fault: where that of one chain is too
@@ -266,58 +276,63 @@ uint64_t mo_windows(const uint64_t *tasks, size_t tasks_length, size_t places, u
  *   kind 1, length 18               a task: its number (2 bytes), T, D, F (4 bytes each);
  *   kind 2, length 4 + 2 * places   a chain: the task number at each place (2 bytes each);
  *   kind 3, length 4                the end;
- * first the tasks, then the chains, then the end, then nothing. The longest file has 692 bytes.
+ *   kind 4, length 6                the gap (2 bytes), 1 to 1,000;
+ * first the tasks, then the chains, then the gap where it is not 0, then the end, then nothing. A gap of 0 has no record. The longest file
+ * has 698 bytes.
  *
  * From the bytes of a file to the table of chain 2, and to the bookings by chains 1 and 2 of a press at t:
  *
- *     uint64_t tasks[128], chains[48], places[4], counts[2], flat[36], n, figures[4], both[4];
+ *     uint64_t tasks[128], chains[48], places[4], counts[3], flat[36], n, figures[4], both[4];
  *     if (mo_read_file(bytes, size, tasks, chains, places, counts) == 0) {
- *         if (mo_chain_of_schedule(tasks, 128, counts[0], chains, 48, places, 4, counts[1], 2, flat, &n) == 0)
- *             .. mo_make_table(flat, 36, n, p, starts, slots, latencies, slots, figures) ..
- *         if (mo_bookings(tasks, 128, counts[0], chains, 48, places, 4, counts[1], 1, 2, t, both) == 0)
+ *         uint64_t gap = counts[2];
+ *         if (mo_chain_of_schedule(tasks, 128, counts[0], chains, 48, places, 4, counts[1], gap, 2, flat, &n) == 0)
+ *             .. mo_make_table(flat, 36, n, gap, p, starts, slots, latencies, slots, figures) ..
+ *         if (mo_bookings(tasks, 128, counts[0], chains, 48, places, 4, counts[1], gap, 1, 2, t, both) == 0)
  *             .. one chain has booked at both[1], the other at both[0], which is both[2] later ..
  *     }
  */
 
 /*
  * Reading a file: tasks becomes number, T, D, F of each task, chains the task numbers at the places of each chain, places the number of
- * places of each chain, and counts the number of tasks and the number of chains; 0 stands in every entry past them. The bytes are not
- * written.
+ * places of each chain, and counts the number of tasks, the number of chains and the gap, 0 where the file has no record of it; 0 stands in
+ * every entry past the tasks and chains. The bytes are not written.
  *
  * The file is judged record by record, and refused at the first record with a fault. The place is that record's offset, but for a byte
  * after the end, where it is that byte's. For one record, the first that applies:
  *   MO_FILE_ENDS_EARLY       fewer than 4 bytes remain; so a file that stops after a record is refused at its length;
  *   MO_RECORD_LENGTH_WRONG   its length is below 4;
  *   MO_FILE_ENDS_EARLY       its length runs past the file;
- *   MO_RECORD_KIND_UNKNOWN   its kind is not 1, 2 or 3;
+ *   MO_RECORD_KIND_UNKNOWN   its kind is not 1 to 4;
  *   MO_RECORD_LENGTH_WRONG   its length is not one of its kind, as for a chain of 0 or 13 places;
- *   MO_RECORD_OUT_OF_TURN    a task after a chain, a 33rd task, a chain before the tasks or a fifth one, an end before a chain;
+ *   MO_RECORD_OUT_OF_TURN    a task after a chain, a 33rd task; a chain before the tasks, a fifth chain, a chain after the gap; a gap before
+ *                            the first chain, a second gap; an end before the first chain;
  *   MO_TASK_OUTSIDE_LIMITS   a task's number is 0 or not above the one before, or T is not 1 to 1,000,000, D not 1 to 4,000,000 or F
- *                            above 1,000,000;
+ *                            above 1,000,000; a gap is not 1 to 1,000;
  *   MO_TASK_UNKNOWN          the chain has a number that no task has;
  *   MO_RECORD_OUT_OF_TURN    at the byte after the end, whatever follows it.
  * A refusal leaves 0 in every entry of tasks, chains, places and counts.
  */
 uint64_t mo_read_file(const uint8_t *bytes, size_t bytes_length,
-                      uint64_t tasks[128], uint64_t chains[48], uint64_t places[4], uint64_t counts[2]);
+                      uint64_t tasks[128], uint64_t chains[48], uint64_t places[4], uint64_t counts[3]);
 
 /*
  * Writing a file: the first bytes of out become the schedule's file, and length the number of these bytes; the others keep their content.
  * Read again, the file gives the same schedule; a file that was read and is written again is the same bytes.
  *
  * Refuses, after the schedule's own refusals:
- *   MO_LISTS_TOO_SHORT   out_length is below the file's length, 18 * count + 4 * chain_count + 2 * (the places of all chains) + 4; at 0.
+ *   MO_LISTS_TOO_SHORT   out_length is below the file's length, 18 * count + 4 * chain_count + 2 * (the places of all chains) + 4, and 6
+ *                        more where gap is not 0; at 0.
  * A refusal leaves every byte of out as it was, and 0 in length.
  */
 uint64_t mo_write_file(const uint64_t *tasks, size_t tasks_length, size_t count,
                        const uint64_t *chains, size_t chains_length,
-                       const uint64_t *places, size_t places_length, size_t chain_count,
+                       const uint64_t *places, size_t places_length, size_t chain_count, uint64_t gap,
                        uint8_t *out, size_t out_length, uint64_t *length);
 
 /*
  * One chain of a schedule, as the calls on chains take it; number counts from 1. flat becomes T, D, F of the task at each of its places, with
- * 0 past them, and chain_places the number of places. Every analysis of the chain is then the call on chains that takes flat, 36 and
- * chain_places; of the chain's own refusals only MO_HYPERPERIOD_TOO_LONG can still come.
+ * 0 past them, and chain_places the number of places. Every analysis of the chain is then the call on chains that takes flat, 36,
+ * chain_places and the same gap; of the chain's own refusals only MO_HYPERPERIOD_TOO_LONG can still come.
  *
  * Refuses, after the schedule's own refusals:
  *   MO_CHAIN_UNKNOWN   number is 0 or above chain_count; at place 0.
@@ -326,7 +341,7 @@ uint64_t mo_write_file(const uint64_t *tasks, size_t tasks_length, size_t count,
  */
 uint64_t mo_chain_of_schedule(const uint64_t *tasks, size_t tasks_length, size_t count,
                               const uint64_t *chains, size_t chains_length,
-                              const uint64_t *places, size_t places_length, size_t chain_count,
+                              const uint64_t *places, size_t places_length, size_t chain_count, uint64_t gap,
                               size_t number, uint64_t flat[36], uint64_t *chain_places);
 
 /*
@@ -349,7 +364,7 @@ uint64_t mo_chain_of_schedule(const uint64_t *tasks, size_t tasks_length, size_t
  */
 uint64_t mo_bookings(const uint64_t *tasks, size_t tasks_length, size_t count,
                      const uint64_t *chains, size_t chains_length,
-                     const uint64_t *places, size_t places_length, size_t chain_count,
+                     const uint64_t *places, size_t places_length, size_t chain_count, uint64_t gap,
                      size_t first, size_t second, uint64_t t, uint64_t figures[4]);
 
 /*

@@ -1,16 +1,17 @@
 """Reference program of Meshorchard: delay tables for chains of
 fixed-duration tasks of cave-survey laser instruments.
 
-It is written from document 01 and orders 1 to 3 of document 02 alone and
-follows their definitions as literally as running time allows.  It uses the
-standard library only.
+It is written from document 01 and orders 1 to 3 and 5 of document 02 alone
+and follows their definitions as literally as running time allows.  It uses
+the standard library only.  Order 4 changes no answer.
 
 Conventions
   A task is (T, D, F): period, duration, phase.
-  A chain is a list of tasks, one for each place.
-  A schedule is given as task_count, tasks, chain_count, chains.  A task there
-  is (number, T, D, F), a chain is (place_count, task numbers).  Entries past
-  a count are no part of it.
+  A chain is a list of tasks, one for each place, and its gap.  The gap
+  follows the tasks wherever a chain is given.
+  A schedule is given as task_count, tasks, chain_count, chains, gap.  A task
+  there is (number, T, D, F), a chain is (place_count, task numbers).  Entries
+  past a count are no part of it.  Its gap is that of each of its chains.
   Places and chains count from 1, job numbers count from 0.
   A success is ("ok", ...), a refusal is ("refused", number, place).
 """
@@ -20,7 +21,7 @@ import math
 import struct
 
 # ---------------------------------------------------------------------------
-# Limits of document 01 and of order 1
+# Limits of document 01 and of orders 1 and 5
 # ---------------------------------------------------------------------------
 
 LONGEST_PERIOD = 1_000_000
@@ -29,8 +30,9 @@ LARGEST_PHASE = 1_000_000
 MOST_TASKS = 32
 MOST_CHAINS = 4
 MOST_PLACES = 12
+LARGEST_GAP = 1_000
 LARGEST_HYPERPERIOD = 60_000_000
-LARGEST_LATENCY = 60_000_000
+LARGEST_LATENCY = 60_011_000
 LARGEST_FIRST_START = 1_000_000_000
 UPPER_TICK = 1_000_000_000_000
 LARGEST_TASK_NUMBER = 65_535
@@ -115,45 +117,62 @@ def latest_writing_at_or_before(task, tick):
 # ---------------------------------------------------------------------------
 
 def hyperperiod(tasks):
-    """The hyperperiod H: least common multiple of the places' periods."""
+    """The hyperperiod H: least common multiple of the places' periods.
+
+    The gap has no part in it.
+    """
     return math.lcm(*[period for period, _duration, _phase in tasks])
 
 
-def check_chain(tasks):
-    """Refusals 8, 5 and 7 of an analysed chain, else ("ok", H)."""
+def gap_within_rule(gap):
+    """Whether the gap lies within its limits."""
+    return 0 <= gap <= LARGEST_GAP
+
+
+def check_chain(tasks, gap):
+    """Refusals 8, 5 and 7 of an analysed chain, else ("ok", H).
+
+    Order 5: "A call given a gap above 1,000 refuses it as 5 at place 0,
+    after the tasks."  A chain of one place has no link, but it is a call
+    given a gap all the same.
+    """
     if not 1 <= len(tasks) <= MOST_PLACES:
         return refused(8)
     for place, task in enumerate(tasks, start=1):
         if not task_within_rule(task):
             return refused(5, place)
+    if not gap_within_rule(gap):
+        return refused(5, 0)
     H = hyperperiod(tasks)
     if H > LARGEST_HYPERPERIOD:
         return refused(7)
     return ("ok", H)
 
 
-def forward(tasks, place, job):
+def forward(tasks, gap, place, job):
     """The last place's job reached by forward steps from a job at a place.
 
-    A forward step takes the next place's earliest job that reads at or
-    after this job's write.  Equal ticks connect.
+    Order 5: "A job then connects to reads at or after write + gap".  So a
+    forward step takes the next place's earliest job that reads at or after
+    this job's write + gap.  Equal ticks connect.
     """
     for here in range(place, len(tasks)):
-        write = write_of(tasks[here - 1], job)
-        job = earliest_reading_at_or_after(tasks[here], write)
+        readable = write_of(tasks[here - 1], job) + gap
+        job = earliest_reading_at_or_after(tasks[here], readable)
     return job
 
 
-def backward_way(tasks, place, job):
+def backward_way(tasks, gap, place, job):
     """The jobs at places 1 to `place` on the backward way, or None.
 
-    A backward step takes the previous place's latest job that writes at
-    or before this job's read.  There may be none.
+    A backward step takes the previous place's latest job that connects to
+    this job's read: its write + gap is at or before the read, so its write
+    is at or before the read less the gap.  There may be none.
     """
     way = [job]
     for here in range(place, 1, -1):
         read = read_of(tasks[here - 1], job)
-        job = latest_writing_at_or_before(tasks[here - 2], read)
+        job = latest_writing_at_or_before(tasks[here - 2], read - gap)
         if job is None:
             return None
         way.append(job)
@@ -161,9 +180,9 @@ def backward_way(tasks, place, job):
     return way
 
 
-def backward(tasks, place, job):
+def backward(tasks, gap, place, job):
     """The first place's job reached by backward steps, or None."""
-    way = backward_way(tasks, place, job)
+    way = backward_way(tasks, gap, place, job)
     return None if way is None else way[0]
 
 
@@ -171,18 +190,18 @@ def backward(tasks, place, job):
 # Warm-up
 # ---------------------------------------------------------------------------
 
-def warm_up_job_by_literal_search(tasks, limit=None):
+def warm_up_job_by_literal_search(tasks, gap, limit=None):
     """Wn by trying job after job upward.  None when the limit is passed."""
     last = len(tasks)
     job = 0
-    while backward(tasks, last, job) is None:
+    while backward(tasks, gap, last, job) is None:
         job += 1
         if limit is not None and job > limit:
             return None
     return job
 
 
-def warm_up_job_by_bisection(tasks):
+def warm_up_job_by_bisection(tasks, gap):
     """Wn by bisection over the job numbers of the last place.
 
     A later job never reaches less than an earlier one, so "reaches the
@@ -190,55 +209,55 @@ def warm_up_job_by_bisection(tasks):
     job that does not reach and one that does until they are neighbours.
     """
     last = len(tasks)
-    if backward(tasks, last, 0) is not None:
+    if backward(tasks, gap, last, 0) is not None:
         return 0
     reaches_not = 0
     reaches = 1
-    while backward(tasks, last, reaches) is None:
+    while backward(tasks, gap, last, reaches) is None:
         reaches_not = reaches
         reaches *= 2
     while reaches - reaches_not > 1:
         middle = (reaches_not + reaches) // 2
-        if backward(tasks, last, middle) is None:
+        if backward(tasks, gap, last, middle) is None:
             reaches_not = middle
         else:
             reaches = middle
     return reaches
 
 
-def is_warm_up_job(tasks, job):
+def is_warm_up_job(tasks, gap, job):
     """Whether the job is Wn: it reaches, the one before does not."""
     last = len(tasks)
-    if backward(tasks, last, job) is None:
+    if backward(tasks, gap, last, job) is None:
         return False
-    return job == 0 or backward(tasks, last, job - 1) is None
+    return job == 0 or backward(tasks, gap, last, job - 1) is None
 
 
-def warm_up_job(tasks):
+def warm_up_job(tasks, gap):
     """Wn: the least job at the last place that reaches the first place."""
-    job = warm_up_job_by_literal_search(tasks, LITERAL_WARM_UP_LIMIT)
+    job = warm_up_job_by_literal_search(tasks, gap, LITERAL_WARM_UP_LIMIT)
     if job is None:
         # Estimate: where the first place's job 0 leads forward.
-        job = forward(tasks, 1, 0)
-        if not is_warm_up_job(tasks, job):
-            job = warm_up_job_by_bisection(tasks)
-    if not is_warm_up_job(tasks, job):
+        job = forward(tasks, gap, 1, 0)
+        if not is_warm_up_job(tasks, gap, job):
+            job = warm_up_job_by_bisection(tasks, gap)
+    if not is_warm_up_job(tasks, gap, job):
         raise AssertionError("this is not the warm-up job")
     return job
 
 
-def warm_up_way(tasks):
+def warm_up_way(tasks, gap):
     """The jobs W1 to Wn of an accepted chain."""
-    return backward_way(tasks, len(tasks), warm_up_job(tasks))
+    return backward_way(tasks, gap, len(tasks), warm_up_job(tasks, gap))
 
 
-def warm_up(tasks):
+def warm_up(tasks, gap):
     """Warm-up: ("ok", [W1 to Wn], x0, H), or refusal 8, 5, 7."""
-    answer = check_chain(tasks)
+    answer = check_chain(tasks, gap)
     if answer[0] != "ok":
         return answer
     H = answer[1]
-    way = warm_up_way(tasks)
+    way = warm_up_way(tasks, gap)
     x0 = read_of(tasks[0], way[0])
     return ("ok", way, x0, H)
 
@@ -247,32 +266,36 @@ def warm_up(tasks):
 # Delay and age
 # ---------------------------------------------------------------------------
 
-def booking(tasks, t):
+def booking(tasks, gap, t):
     """The last write of the forward walk of a press at tick t.
 
     The first place's earliest job that reads strictly after t reads at or
-    after t + 1, ticks being whole.
+    after t + 1, ticks being whole.  The last write has no gap.
     """
     job = earliest_reading_at_or_after(tasks[0], t + 1)
-    end_job = forward(tasks, 1, job)
+    end_job = forward(tasks, gap, 1, job)
     return write_of(tasks[-1], end_job)
 
 
-def walked_delay(tasks, t):
+def walked_delay(tasks, gap, t):
     """The delay at tick t, without the refusals."""
-    return booking(tasks, t) - t
+    return booking(tasks, gap, t) - t
 
 
-def walked_age(tasks, z):
-    """The age at tick z, without the refusals."""
+def walked_age(tasks, gap, z):
+    """The age at tick z, without the refusals.
+
+    It is of the last place's latest job that writes at or before z: the
+    last write has no gap.
+    """
     job = latest_writing_at_or_before(tasks[-1], z)
-    first_job = backward(tasks, len(tasks), job)
+    first_job = backward(tasks, gap, len(tasks), job)
     return z - read_of(tasks[0], first_job)
 
 
-def delay(tasks, t):
+def delay(tasks, gap, t):
     """Walking: ("ok", delay at t), or refusal 8, 5, 7, 12, 13."""
-    answer = warm_up(tasks)
+    answer = warm_up(tasks, gap)
     if answer[0] != "ok":
         return answer
     x0 = answer[2]
@@ -280,12 +303,12 @@ def delay(tasks, t):
         return refused(12)
     if t > UPPER_TICK:
         return refused(13)
-    return ("ok", walked_delay(tasks, t))
+    return ("ok", walked_delay(tasks, gap, t))
 
 
-def age(tasks, z):
+def age(tasks, gap, z):
     """Ageing: ("ok", age at z), or refusal 8, 5, 7, 12, 13."""
-    answer = warm_up(tasks)
+    answer = warm_up(tasks, gap)
     if answer[0] != "ok":
         return answer
     way = answer[1]
@@ -293,23 +316,23 @@ def age(tasks, z):
         return refused(12)
     if z > UPPER_TICK:
         return refused(13)
-    return ("ok", walked_age(tasks, z))
+    return ("ok", walked_age(tasks, gap, z))
 
 
 # ---------------------------------------------------------------------------
 # Partitions and anchors
 # ---------------------------------------------------------------------------
 
-def partition(tasks, p, m):
+def partition(tasks, gap, p, m):
     """The partition of job m at place p: its start and its end."""
-    first_job = backward(tasks, p, m)
-    last_job = forward(tasks, p, m + 1)
+    first_job = backward(tasks, gap, p, m)
+    last_job = forward(tasks, gap, p, m + 1)
     return (read_of(tasks[0], first_job), write_of(tasks[-1], last_job))
 
 
-def range_of_m(tasks, p):
+def range_of_m(tasks, gap, p):
     """The definition's range of m: Wp to Wp + H/Tp - 1."""
-    answer = warm_up(tasks)
+    answer = warm_up(tasks, gap)
     if answer[0] != "ok":
         raise ValueError("the chain is not accepted")
     if not 1 <= p <= len(tasks):
@@ -320,9 +343,9 @@ def range_of_m(tasks, p):
     return range(Wp, Wp + H // Tp)
 
 
-def partitions(tasks, p):
+def partitions(tasks, gap, p):
     """The partitions (start, end) of every m in the range."""
-    return [partition(tasks, p, m) for m in range_of_m(tasks, p)]
+    return [partition(tasks, gap, p, m) for m in range_of_m(tasks, gap, p)]
 
 
 def anchors_of_walk(walk, next_start):
@@ -349,11 +372,11 @@ def anchors_of_walk(walk, next_start):
     return [(start, end - start) for start, end in remaining]
 
 
-def anchors(tasks, p):
+def anchors(tasks, gap, p):
     """The anchors (start, latency) of an accepted chain cut at place p."""
-    numbers = range_of_m(tasks, p)
-    walk = [partition(tasks, p, m) for m in numbers]
-    after = backward(tasks, p, numbers.stop)
+    numbers = range_of_m(tasks, gap, p)
+    walk = [partition(tasks, gap, p, m) for m in numbers]
+    after = backward(tasks, gap, p, numbers.stop)
     return anchors_of_walk(walk, read_of(tasks[0], after))
 
 
@@ -361,7 +384,7 @@ def anchors(tasks, p):
 # Making a table
 # ---------------------------------------------------------------------------
 
-def make(tasks, p, starts, latencies):
+def make(tasks, gap, p, starts, latencies):
     """Making: (answer, starts after, latencies after).
 
     The answer is ("ok", g, x0, H, walked), or
@@ -369,7 +392,7 @@ def make(tasks, p, starts, latencies):
     """
     starts_after = list(starts)
     latencies_after = list(latencies)
-    answer = warm_up(tasks)
+    answer = warm_up(tasks, gap)
     if answer[0] != "ok":
         return (answer, starts_after, latencies_after)
     if not 1 <= p <= len(tasks):
@@ -377,8 +400,8 @@ def make(tasks, p, starts, latencies):
     if len(starts) != len(latencies):
         return (refused(10), starts_after, latencies_after)
     x0, H = answer[2], answer[3]
-    found = anchors(tasks, p)
-    walked = len(range_of_m(tasks, p))
+    found = anchors(tasks, gap, p)
+    walked = len(range_of_m(tasks, gap, p))
     g = len(found)
     # The first anchors that fit are written, the rest keeps its content.
     for index in range(min(g, len(starts))):
@@ -592,16 +615,16 @@ def exceedance(starts, latencies, g, H, B):
 # Windows of jobs
 # ---------------------------------------------------------------------------
 
-def misses(tasks, j, B):
+def misses(tasks, gap, j, B):
     """Whether job j of the first place misses.
 
     It misses when its forward end less its own read is above B.
     """
-    end = write_of(tasks[-1], forward(tasks, 1, j))
+    end = write_of(tasks[-1], forward(tasks, gap, 1, j))
     return end - read_of(tasks[0], j) > B
 
 
-def windows(tasks, B, k):
+def windows(tasks, gap, B, k):
     """Windows: ("ok", count, job), or refusal 8, 5, 7, 15.
 
     Document 01, "Windows of jobs": count is the largest number of misses
@@ -609,7 +632,7 @@ def windows(tasks, B, k):
     Document 02, order 2: job is "the earliest starting job whose window
     holds that many misses, within the range of jobs as before".
     """
-    answer = warm_up(tasks)
+    answer = warm_up(tasks, gap)
     if answer[0] != "ok":
         return answer
     if not 1 <= k <= LARGEST_WINDOW:
@@ -620,7 +643,7 @@ def windows(tasks, B, k):
     # Every job of every window is judged once.
     missing = {}
     for j in range(first_jobs.start, first_jobs.stop - 1 + k):
-        missing[j] = misses(tasks, j, B)
+        missing[j] = misses(tasks, gap, j, B)
     # Every window is counted by itself.  It may run past the range.
     counts = {}
     for first in first_jobs:
@@ -635,7 +658,7 @@ def windows(tasks, B, k):
 # Two chains
 # ---------------------------------------------------------------------------
 
-def next_change(tasks, t):
+def next_change(tasks, gap, t):
     """The first tick after t whose booking is another than that of t.
 
     The job that ends the walk from t also ends the walk from every job of
@@ -643,17 +666,20 @@ def next_change(tasks, t):
     of that one comes too late for it.
     """
     job = earliest_reading_at_or_after(tasks[0], t + 1)
-    end_job = forward(tasks, 1, job)
-    return read_of(tasks[0], backward(tasks, len(tasks), end_job))
+    end_job = forward(tasks, gap, 1, job)
+    return read_of(tasks[0], backward(tasks, gap, len(tasks), end_job))
 
 
-def greatest_difference_by_ticks(first, second, from_tick, common):
+def greatest_difference_by_ticks(first, first_gap, second, second_gap,
+                                 from_tick, common):
     """The greatest difference of the bookings, tick by tick."""
-    return max(abs(booking(first, t) - booking(second, t))
+    return max(abs(booking(first, first_gap, t)
+                   - booking(second, second_gap, t))
                for t in range(from_tick, from_tick + common))
 
 
-def greatest_difference_by_segments(first, second, from_tick, common):
+def greatest_difference_by_segments(first, first_gap, second, second_gap,
+                                    from_tick, common):
     """The same, by the segments in which one chain's booking stays.
 
     In a segment the other booking never falls, so the difference is
@@ -661,42 +687,48 @@ def greatest_difference_by_segments(first, second, from_tick, common):
     of the chain with the longest period, which has few.
     """
     if max(task[0] for task in first) >= max(task[0] for task in second):
-        steady, other = first, second
+        steady, steady_gap, other, other_gap = \
+            first, first_gap, second, second_gap
     else:
-        steady, other = second, first
+        steady, steady_gap, other, other_gap = \
+            second, second_gap, first, first_gap
     largest = 0
     t = from_tick
     while t < from_tick + common:
-        after = min(next_change(steady, t), from_tick + common)
-        stays = booking(steady, t)
+        after = min(next_change(steady, steady_gap, t), from_tick + common)
+        stays = booking(steady, steady_gap, t)
         largest = max(largest,
-                      abs(stays - booking(other, t)),
-                      abs(stays - booking(other, after - 1)))
+                      abs(stays - booking(other, other_gap, t)),
+                      abs(stays - booking(other, other_gap, after - 1)))
         t = after
     return largest
 
 
 @functools.lru_cache(maxsize=64)
-def greatest_difference(first, second, from_tick, common):
+def greatest_difference(first, first_gap, second, second_gap, from_tick,
+                        common):
     """The greatest difference over the common ticks from the tick given.
 
     It does not depend on the press, so the last answers are kept.
     """
     if common <= ENUMERATION_LIMIT:
-        return greatest_difference_by_ticks(first, second, from_tick, common)
-    return greatest_difference_by_segments(first, second, from_tick, common)
+        return greatest_difference_by_ticks(first, first_gap, second,
+                                            second_gap, from_tick, common)
+    return greatest_difference_by_segments(first, first_gap, second,
+                                           second_gap, from_tick, common)
 
 
-def bookings(first_tasks, second_tasks, t):
+def bookings(first_tasks, first_gap, second_tasks, second_gap, t):
     """Two chains: ("ok", later, earlier, difference, greatest).
 
+    Each chain has its gap; chains of one schedule have the same.
     Refusals: the first chain's own 8, 5, 7, the second's own, 7 for the
     common hyperperiod, 12 for a tick before either warm-up, 13.
     """
-    first = warm_up(first_tasks)
+    first = warm_up(first_tasks, first_gap)
     if first[0] != "ok":
         return first
-    second = warm_up(second_tasks)
+    second = warm_up(second_tasks, second_gap)
     if second[0] != "ok":
         return second
     common = hyperperiod(list(first_tasks) + list(second_tasks))
@@ -707,9 +739,10 @@ def bookings(first_tasks, second_tasks, t):
         return refused(12)
     if t > UPPER_TICK:
         return refused(13)
-    both = [booking(first_tasks, t), booking(second_tasks, t)]
-    largest = greatest_difference(tuple(map(tuple, first_tasks)),
-                                  tuple(map(tuple, second_tasks)),
+    both = [booking(first_tasks, first_gap, t),
+            booking(second_tasks, second_gap, t)]
+    largest = greatest_difference(tuple(map(tuple, first_tasks)), first_gap,
+                                  tuple(map(tuple, second_tasks)), second_gap,
                                   later_warm_up, common)
     return ("ok", max(both), min(both), max(both) - min(both), largest)
 
@@ -721,19 +754,23 @@ def bookings(first_tasks, second_tasks, t):
 KIND_TASK = 1
 KIND_CHAIN = 2
 KIND_END = 3
+KIND_GAP = 4
 TASK_LENGTH = 18
 END_LENGTH = 4
+GAP_LENGTH = 6
 CHAIN_LENGTHS = [4 + 2 * places for places in range(1, MOST_PLACES + 1)]
 
 
 def read_file(data):
-    """Reading a file: ("ok", tasks, chains), or the first fault.
+    """Reading a file: ("ok", tasks, chains, gap), or the first fault.
 
     tasks is a list of (number, T, D, F), chains a list of lists of task
-    numbers.  The place of a refusal is a byte offset.
+    numbers.  The gap is 0 where the file has no gap record.  The place of
+    a refusal is a byte offset.
     """
     tasks = []
     chains = []
+    gap = None
     offset = 0
     while True:
         remaining = len(data) - offset
@@ -748,7 +785,7 @@ def read_file(data):
         if length > remaining:
             return refused(1, offset)
         # 3: unknown kind.
-        if kind not in (KIND_TASK, KIND_CHAIN, KIND_END):
+        if kind not in (KIND_TASK, KIND_CHAIN, KIND_END, KIND_GAP):
             return refused(3, offset)
         # 2: wrong length for the kind.
         if kind == KIND_TASK and length != TASK_LENGTH:
@@ -757,9 +794,11 @@ def read_file(data):
             return refused(2, offset)
         if kind == KIND_END and length != END_LENGTH:
             return refused(2, offset)
+        if kind == KIND_GAP and length != GAP_LENGTH:
+            return refused(2, offset)
 
         if kind == KIND_TASK:
-            # 4: task after a chain, 33rd task.
+            # 4: task after a chain (so after a gap too), 33rd task.
             if chains or len(tasks) == MOST_TASKS:
                 return refused(4, offset)
             number, T, D, F = struct.unpack_from("<HIII", data, offset + 4)
@@ -773,8 +812,8 @@ def read_file(data):
             tasks.append((number, T, D, F))
 
         elif kind == KIND_CHAIN:
-            # 4: chain first, fifth chain.
-            if not tasks or len(chains) == MOST_CHAINS:
+            # 4: chain first, fifth chain, chain after a gap.
+            if not tasks or len(chains) == MOST_CHAINS or gap is not None:
                 return refused(4, offset)
             places = (length - 4) // 2
             numbers = list(struct.unpack_from("<%dH" % places, data,
@@ -785,6 +824,17 @@ def read_file(data):
                 return refused(6, offset)
             chains.append(numbers)
 
+        elif kind == KIND_GAP:
+            # 4: gap before a chain, gap twice.
+            if not chains or gap is not None:
+                return refused(4, offset)
+            value, = struct.unpack_from("<H", data, offset + 4)
+            # 5: a gap of 0, which is written by leaving it out, or one
+            # above its limit.
+            if value == 0 or not gap_within_rule(value):
+                return refused(5, offset)
+            gap = value
+
         else:
             # 4: end before a chain.
             if not chains:
@@ -792,15 +842,16 @@ def read_file(data):
             # A byte after end is 4 at that byte.
             if offset + length < len(data):
                 return refused(4, offset + length)
-            return ("ok", tasks, chains)
+            return ("ok", tasks, chains, 0 if gap is None else gap)
 
         offset += length
 
 
-def schedule_fault(task_count, tasks, chain_count, chains):
+def schedule_fault(task_count, tasks, chain_count, chains, gap):
     """The refusal 8, 5 or 6 of a schedule, or None.
 
-    Array entries past a count are no part of the schedule.
+    Array entries past a count are no part of the schedule.  A gap outside
+    its limits is 5 at place 0, after the tasks.
     """
     # 8: task count, number of chains or of places outside its limits.
     if not 1 <= task_count <= MOST_TASKS:
@@ -819,6 +870,8 @@ def schedule_fault(task_count, tasks, chain_count, chains):
             return refused(5, position)
         if not task_within_rule((T, D, F)):
             return refused(5, position)
+    if not gap_within_rule(gap):
+        return refused(5, 0)
     # 6: chain by chain, lowest position with an unknown task.
     known = {task[0] for task in counted}
     for place_count, numbers in chains[:chain_count]:
@@ -828,16 +881,16 @@ def schedule_fault(task_count, tasks, chain_count, chains):
     return None
 
 
-def write_file(task_count, tasks, chain_count, chains, lent):
+def write_file(task_count, tasks, chain_count, chains, gap, lent):
     """Writing a file: (answer, lent bytes after).
 
     The answer is ("ok", length), or refusal 8, 5, 6, 11.
     """
     lent = bytes(lent)
-    fault = schedule_fault(task_count, tasks, chain_count, chains)
+    fault = schedule_fault(task_count, tasks, chain_count, chains, gap)
     if fault is not None:
         return (fault, lent)
-    # Tasks, chains, end.
+    # Tasks, chains, the gap unless it is 0, end.
     file = b""
     for number, T, D, F in tasks[:task_count]:
         file += struct.pack("<HHHIII", TASK_LENGTH, KIND_TASK,
@@ -846,6 +899,8 @@ def write_file(task_count, tasks, chain_count, chains, lent):
         file += struct.pack("<HH", 4 + 2 * place_count, KIND_CHAIN)
         for number in numbers[:place_count]:
             file += struct.pack("<H", number)
+    if gap != 0:
+        file += struct.pack("<HHH", GAP_LENGTH, KIND_GAP, gap)
     file += struct.pack("<HH", END_LENGTH, KIND_END)
     # 11: lent bytes shorter than the file.
     if len(lent) < len(file):
@@ -857,9 +912,12 @@ def write_file(task_count, tasks, chain_count, chains, lent):
 # Analyses from a schedule
 # ---------------------------------------------------------------------------
 
-def chain_of_schedule(task_count, tasks, chain_count, chains, n):
-    """Chain n: ("ok", its places as (T, D, F)), or refusal 8, 5, 6, 16."""
-    fault = schedule_fault(task_count, tasks, chain_count, chains)
+def chain_of_schedule(task_count, tasks, chain_count, chains, gap, n):
+    """Chain n: ("ok", its places as (T, D, F)), or refusal 8, 5, 6, 16.
+
+    Its gap is the schedule's.
+    """
+    fault = schedule_fault(task_count, tasks, chain_count, chains, gap)
     if fault is not None:
         return fault
     # 16: a chain number not in the schedule.
@@ -870,64 +928,68 @@ def chain_of_schedule(task_count, tasks, chain_count, chains, n):
     return ("ok", [by_number[number] for number in numbers[:place_count]])
 
 
-def warm_up_of(task_count, tasks, chain_count, chains, n):
+def warm_up_of(task_count, tasks, chain_count, chains, gap, n):
     """Warm-up of chain n.  Refusals 8, 5, 6, 16, then those of warm_up."""
-    chain = chain_of_schedule(task_count, tasks, chain_count, chains, n)
+    chain = chain_of_schedule(task_count, tasks, chain_count, chains, gap, n)
     if chain[0] != "ok":
         return chain
-    return warm_up(chain[1])
+    return warm_up(chain[1], gap)
 
 
-def delay_of(task_count, tasks, chain_count, chains, n, t):
+def delay_of(task_count, tasks, chain_count, chains, gap, n, t):
     """Walking chain n.  Refusals 8, 5, 6, 16, then those of delay."""
-    chain = chain_of_schedule(task_count, tasks, chain_count, chains, n)
+    chain = chain_of_schedule(task_count, tasks, chain_count, chains, gap, n)
     if chain[0] != "ok":
         return chain
-    return delay(chain[1], t)
+    return delay(chain[1], gap, t)
 
 
-def age_of(task_count, tasks, chain_count, chains, n, z):
+def age_of(task_count, tasks, chain_count, chains, gap, n, z):
     """Ageing chain n.  Refusals 8, 5, 6, 16, then those of age."""
-    chain = chain_of_schedule(task_count, tasks, chain_count, chains, n)
+    chain = chain_of_schedule(task_count, tasks, chain_count, chains, gap, n)
     if chain[0] != "ok":
         return chain
-    return age(chain[1], z)
+    return age(chain[1], gap, z)
 
 
-def make_of(task_count, tasks, chain_count, chains, n, p, starts, latencies):
+def make_of(task_count, tasks, chain_count, chains, gap, n, p, starts,
+            latencies):
     """Making a table of chain n: (answer, starts after, latencies after).
 
     Refusals 8, 5, 6, 16, then those of make.
     """
-    chain = chain_of_schedule(task_count, tasks, chain_count, chains, n)
+    chain = chain_of_schedule(task_count, tasks, chain_count, chains, gap, n)
     if chain[0] != "ok":
         return (chain, list(starts), list(latencies))
-    return make(chain[1], p, starts, latencies)
+    return make(chain[1], gap, p, starts, latencies)
 
 
-def windows_of(task_count, tasks, chain_count, chains, n, B, k):
+def windows_of(task_count, tasks, chain_count, chains, gap, n, B, k):
     """Windows of chain n, with the earliest job as in windows.
 
     Refusals 8, 5, 6, 16, then those of windows.
     """
-    chain = chain_of_schedule(task_count, tasks, chain_count, chains, n)
+    chain = chain_of_schedule(task_count, tasks, chain_count, chains, gap, n)
     if chain[0] != "ok":
         return chain
-    return windows(chain[1], B, k)
+    return windows(chain[1], gap, B, k)
 
 
-def bookings_of(task_count, tasks, chain_count, chains, first, second, t):
+def bookings_of(task_count, tasks, chain_count, chains, gap, first, second,
+                t):
     """Two chains by their numbers, which may be equal.
 
     Refusals 8, 5, 6, 16 for either number, then those of bookings.
     """
-    one = chain_of_schedule(task_count, tasks, chain_count, chains, first)
+    one = chain_of_schedule(task_count, tasks, chain_count, chains, gap,
+                            first)
     if one[0] != "ok":
         return one
-    two = chain_of_schedule(task_count, tasks, chain_count, chains, second)
+    two = chain_of_schedule(task_count, tasks, chain_count, chains, gap,
+                            second)
     if two[0] != "ok":
         return two
-    return bookings(one[1], two[1], t)
+    return bookings(one[1], gap, two[1], gap, t)
 
 
 # ---------------------------------------------------------------------------
@@ -945,11 +1007,11 @@ def refusal_line(answer):
     return "refused %d %d" % (answer[1], answer[2])
 
 
-def lines_of_chain(tasks):
+def lines_of_chain(tasks, gap):
     """The lines of one chain: its table and figures, or its refusal."""
     p = longest_period_place(tasks)
     slots = [0] * REPORT_SLOTS
-    answer, starts, latencies = make(tasks, p, slots, slots)
+    answer, starts, latencies = make(tasks, gap, p, slots, slots)
     if answer[0] != "ok":
         return [refusal_line(answer)]
     _ok, g, x0, H, walked = answer
@@ -970,16 +1032,16 @@ def report(data):
     if schedule[0] != "ok":
         lines = [refusal_line(schedule)]
     else:
-        _ok, tasks, chains = schedule
+        _ok, tasks, chains, gap = schedule
         counted = [(len(numbers), numbers) for numbers in chains]
         lines = []
         for n in range(1, len(chains) + 1):
             lines.append("chain %d" % n)
             chain = chain_of_schedule(len(tasks), tasks,
-                                      len(counted), counted, n)
+                                      len(counted), counted, gap, n)
             if chain[0] != "ok":
                 raise AssertionError("a schedule that was read is refused")
-            lines += lines_of_chain(chain[1])
+            lines += lines_of_chain(chain[1], gap)
     return ("\n".join(lines) + "\n").encode("ascii")
 
 

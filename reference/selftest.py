@@ -87,53 +87,63 @@ def literal_strictly_after(task, tick):
             return job
 
 
-def literal_latest(task, tick):
-    """The latest job that writes at or before the tick, or None."""
+def literal_latest(task, gap, tick):
+    """The latest job with write + gap at or before the tick, or None."""
     T, D, F = task
     latest = None
     for job in itertools.count():
-        if F + job * T + D > tick:
+        if F + job * T + D + gap > tick:
             return latest
         latest = job
 
 
-def literal_forward_end(tasks, job):
-    """The last write of the forward way from a job of the first place."""
+def literal_forward_end(tasks, gap, job):
+    """The last write of the forward way from a job of the first place.
+
+    Each link has the gap, the last write has none.
+    """
     T, D, F = tasks[0]
     write = F + job * T + D
     for T, D, F in tasks[1:]:
-        write = F + literal_earliest((T, D, F), write) * T + D
+        write = F + literal_earliest((T, D, F), write + gap) * T + D
     return write
 
 
-def literal_backward_way(tasks, job):
+def literal_backward_way(tasks, gap, job):
     """The jobs at all places on the backward way from the last place."""
     way = [job]
     for index in range(len(tasks) - 1, 0, -1):
         T, _D, F = tasks[index]
-        job = literal_latest(tasks[index - 1], F + job * T)
+        job = literal_latest(tasks[index - 1], gap, F + job * T)
         if job is None:
             return None
         way.insert(0, job)
     return way
 
 
-def literal_warm_up(tasks):
+def literal_warm_up(tasks, gap):
     """W1 to Wn by trying the last place's jobs from 0 upward."""
     for job in itertools.count():
-        way = literal_backward_way(tasks, job)
+        way = literal_backward_way(tasks, gap, job)
         if way is not None:
             return way
 
 
-def literal_delay(tasks, t):
+def literal_booking(tasks, gap, t):
+    """The last write of the forward walk of a press at t."""
+    return literal_forward_end(tasks, gap,
+                               literal_strictly_after(tasks[0], t))
+
+
+def literal_delay(tasks, gap, t):
     """The delay at t by literal searches."""
-    return literal_forward_end(tasks, literal_strictly_after(tasks[0], t)) - t
+    return literal_booking(tasks, gap, t) - t
 
 
-def literal_age(tasks, z):
-    """The age at z by literal searches."""
-    first = literal_backward_way(tasks, literal_latest(tasks[-1], z))[0]
+def literal_age(tasks, gap, z):
+    """The age at z by literal searches.  The last write has no gap."""
+    job = literal_latest(tasks[-1], 0, z)
+    first = literal_backward_way(tasks, gap, job)[0]
     return z - (tasks[0][2] + first * tasks[0][0])
 
 
@@ -232,6 +242,55 @@ def large_chain(rng):
             return tasks
 
 
+def no_gap(_rng, *_chains):
+    """No gap, as document 01 has it.  It takes no draw."""
+    return 0
+
+
+def deciding_gap(rng, tasks):
+    """A gap with which a link just fits for some jobs, or just misses.
+
+    A read of one place less a write of the place before is the same number
+    modulo the greatest common divisor of the two periods.  With such a gap
+    equal ticks connect, with one more they do not.
+    """
+    here = rng.randrange(len(tasks) - 1)
+    (T, D, F), (next_T, _D, next_F) = tasks[here:here + 2]
+    step = math.gcd(T, next_T)
+    fits = (next_F - F - D) % step + step * rng.randint(0, 3)
+    return min(fits + rng.randint(0, 1), 1_000)
+
+
+def small_gap(rng, *chains):
+    """A random gap for small chains, on which searches begin at job 0."""
+    tasks = rng.choice(chains)
+    if len(tasks) > 1 and rng.random() < 0.4:
+        return deciding_gap(rng, tasks)
+    if len(tasks) < 4 and rng.random() < 0.1:
+        return rng.choice([999, 1_000])
+    return rng.choice([0, 1, 1, 2, 3, rng.randint(1, 40)])
+
+
+def wide_gap(rng, *_chains):
+    """A random gap of any size, for chains that are not searched through."""
+    return rng.choice([0, 1, 2, rng.randint(1, 1_000), 999, 1_000, 1_000])
+
+
+def tightened(rng, tasks, gap):
+    """The chain with phases with which links just fit or just miss.
+
+    A read of each later place falls on the tick at which job 0 of the place
+    before becomes readable, or on the tick before that.
+    """
+    tasks = list(tasks)
+    for here in range(1, len(tasks)):
+        T, D, F = tasks[here - 1]
+        next_T, next_D, _next_F = tasks[here]
+        readable = F + D + gap - rng.choice([0, 1])
+        tasks[here] = (next_T, next_D, readable % next_T)
+    return tasks
+
+
 def random_table(rng, largest_H):
     """A random well-formed table, of no chain in particular."""
     H = rng.randint(1, largest_H)
@@ -259,21 +318,21 @@ TABLE_A = ([0, 8], [18, 16], 2, 12)
 
 def group_survey_a(_rng):
     A = CHAIN_A
-    same(ref.warm_up(A), ("ok", [0, 1], 0, 12), "A1")
-    same(ref.check_chain(A), ("ok", 12), "A1 hyperperiod")
+    same(ref.warm_up(A, 0), ("ok", [0, 1], 0, 12), "A1")
+    same(ref.check_chain(A, 0), ("ok", 12), "A1 hyperperiod")
     for p in (1, 2):
-        same(ref.anchors(A, p), [(0, 18), (8, 16)], "A2 cut at %d" % p)
-    same(ref.partitions(A, 1), [(0, 18), (4, 18), (8, 24)], "A2 partitions")
+        same(ref.anchors(A, 0, p), [(0, 18), (8, 16)], "A2 cut at %d" % p)
+    same(ref.partitions(A, 0, 1), [(0, 18), (4, 18), (8, 24)], "A2 partitions")
     for p, walked in ((1, 3), (2, 2)):
-        same(ref.make(A, p, [7, 7, 7], [9, 9, 9]),
+        same(ref.make(A, 0, p, [7, 7, 7], [9, 9, 9]),
              (("ok", 2, 0, 12, walked), [0, 8, 7], [18, 16, 9]),
              "A3 cut at %d" % p)
     for t, expected in ((0, 18), (7, 11), (8, 16), (11, 13), (12, 18)):
-        same(ref.delay(A, t), ("ok", expected), "A4 delay at %d" % t)
+        same(ref.delay(A, 0, t), ("ok", expected), "A4 delay at %d" % t)
         same(ref.read_table(*TABLE_A, t), ("ok", expected),
              "A4 table at %d" % t)
     for z, expected in ((12, 12), (17, 17), (18, 10), (23, 15)):
-        same(ref.age(A, z), ("ok", expected), "A5 age at %d" % z)
+        same(ref.age(A, 0, z), ("ok", expected), "A5 age at %d" % z)
     same(ref.low(*TABLE_A), ("ok", 10), "A6 low")
     # The mean of order 3; document 01 still has 174 and 12.
     same(ref.mean(*TABLE_A), ("ok", 336, 24), "A6 mean by area")
@@ -281,37 +340,38 @@ def group_survey_a(_rng):
     same(ref.throughput(*TABLE_A), ("ok", 2, 12), "throughput")
     for B, expected in ((18, 0), (14, 4), (11, 11), (10, "endless")):
         same(ref.exceedance(*TABLE_A, B), ("ok", expected), "A7 of %d" % B)
-    same(ref.windows(A, 11, 2), ("ok", 2, 3), "A8 B 11 k 2")
-    same(ref.windows(A, 14, 3), ("ok", 0, 1), "A8 B 14 k 3")
+    same(ref.windows(A, 0, 11, 2), ("ok", 2, 3), "A8 B 11 k 2")
+    same(ref.windows(A, 0, 14, 3), ("ok", 0, 1), "A8 B 14 k 3")
     # The example of order 2: every window of three jobs holds 2 misses.
-    same(ref.windows(A, 11, 3), ("ok", 2, 1), "order 2 B 11 k 3")
+    same(ref.windows(A, 0, 11, 3), ("ok", 2, 1), "order 2 B 11 k 3")
 
 
 def group_survey_b_to_e(_rng):
     B = [(10, 3, 5)]
-    same(ref.anchors(B, 1), [(5, 13)], "B anchor")
-    same(ref.delay(B, 4), ("refused", 12, 0), "B tick 4")
-    same(ref.delay(B, 5), ("ok", 13), "B tick 5")
+    same(ref.anchors(B, 0, 1), [(5, 13)], "B anchor")
+    same(ref.delay(B, 0, 4), ("refused", 12, 0), "B tick 4")
+    same(ref.delay(B, 0, 5), ("ok", 13), "B tick 5")
     C = [(5, 5, 0), (5, 5, 0)]
     for p in (1, 2):
-        same(ref.anchors(C, p), [(0, 15)], "C cut at %d" % p)
+        same(ref.anchors(C, 0, p), [(0, 15)], "C cut at %d" % p)
     D = [(10, 2, 0), (10, 1, 95)]
-    same(ref.warm_up(D)[2], 90, "D x0")
-    same(ref.delay(D, 90), ("ok", 16), "D delay")
-    same(ref.delay(D, 89), ("refused", 12, 0), "D tick 89")
+    same(ref.warm_up(D, 0)[2], 90, "D x0")
+    same(ref.delay(D, 0, 90), ("ok", 16), "D delay")
+    same(ref.delay(D, 0, 89), ("refused", 12, 0), "D tick 89")
     for places in (0, 13):
-        same(ref.check_chain([(1, 1, 0)] * places), ("refused", 8, 0),
+        same(ref.check_chain([(1, 1, 0)] * places, 0), ("refused", 8, 0),
              "E %d places" % places)
     # 60,000,000 is 2^8 * 3 * 5^7, and 60,000,001 is 151 * 397,351.
     same(2 ** 8 * 3 * 5 ** 7, 60_000_000, "E factors at the limit")
     same(151 * 397_351, 60_000_001, "E factors above")
     at_limit = [(1_000_000, 1, 0), (768, 1, 0), (5 ** 7, 1, 0)]
-    same(ref.check_chain(at_limit), ("ok", 60_000_000), "E at the limit")
-    same(ref.warm_up(at_limit)[3], 60_000_000, "E warm-up at the limit")
+    same(ref.check_chain(at_limit, 0), ("ok", 60_000_000), "E at the limit")
+    same(ref.warm_up(at_limit, 0)[3], 60_000_000, "E warm-up at the limit")
     above = [(151, 1, 0), (397_351, 1, 0)]
-    for answer in (ref.check_chain(above), ref.warm_up(above),
-                   ref.delay(above, 500_000), ref.age(above, 500_000),
-                   ref.make(above, 1, [], [])[0], ref.windows(above, 1, 1)):
+    for answer in (ref.check_chain(above, 0), ref.warm_up(above, 0),
+                   ref.delay(above, 0, 500_000), ref.age(above, 0, 500_000),
+                   ref.make(above, 0, 1, [], [])[0],
+                   ref.windows(above, 0, 1, 1)):
         same(answer, ("refused", 7, 0), "E above the limit")
 
 
@@ -354,24 +414,25 @@ def padded_chains(chains):
         + [(99, [0] * 12)] * (4 - len(chains))
 
 
-def schedule(tasks, chains):
+def schedule(tasks, chains, gap):
     """The arguments that stand for a schedule."""
-    return (len(tasks), padded(tasks), len(chains), padded_chains(chains))
+    return (len(tasks), padded(tasks), len(chains), padded_chains(chains),
+            gap)
 
 
 def group_file_of_chain_a(_rng):
     tasks = [(1, 4, 4, 0), (2, 6, 6, 0)]
     same(len(FILE_A), 48, "length")
-    same(ref.read_file(FILE_A), ("ok", tasks, [[1, 2]]), "read")
-    same(ref.write_file(*schedule(tasks, [[1, 2]]), b"\xaa" * 50),
+    same(ref.read_file(FILE_A), ("ok", tasks, [[1, 2]], 0), "read")
+    same(ref.write_file(*schedule(tasks, [[1, 2]], 0), b"\xaa" * 50),
          (("ok", 48), FILE_A + b"\xaa\xaa"), "written")
-    same(ref.write_file(*schedule(tasks, [[1, 2]]), b"\xaa" * 47),
+    same(ref.write_file(*schedule(tasks, [[1, 2]], 0), b"\xaa" * 47),
          (("refused", 11, 0), b"\xaa" * 47), "lent bytes short")
     same(ref.report(FILE_A), REPORT_A, "report")
     # A second chain record, byte for byte: task 2 alone.
     file = FILE_A[:44] + bytes.fromhex("0600" "0200" "0200" "0400" "0300")
-    same(ref.read_file(file), ("ok", tasks, [[1, 2], [2]]), "two chains")
-    same(ref.write_file(*schedule(tasks, [[1, 2], [2]]), bytes(60)),
+    same(ref.read_file(file), ("ok", tasks, [[1, 2], [2]], 0), "two chains")
+    same(ref.write_file(*schedule(tasks, [[1, 2], [2]], 0), bytes(60)),
          (("ok", 54), file + bytes(6)), "two chains written")
     # Its one anchor: press at 0, read at 6, write at 12.  The delay falls
     # from 12 to 6 in 6 ticks, an area of 6 times 9, which is 54.
@@ -398,7 +459,7 @@ def group_steps(rng):
         same(ref.earliest_reading_at_or_after(task, tick),
              literal_earliest(task, tick), "earliest %r %r" % (task, tick))
         same(ref.latest_writing_at_or_before(task, tick),
-             literal_latest(task, tick), "latest %r %r" % (task, tick))
+             literal_latest(task, 0, tick), "latest %r %r" % (task, tick))
     # Over the full range the neighbours decide.
     for _ in range(3_000):
         T = rng.randint(1, 1_000_000)
@@ -416,71 +477,88 @@ def group_steps(rng):
                  (True, True), "latest is latest")
 
 
-def group_warm_up(rng):
+def warm_ups(rng, choose_small, choose_large):
     for _ in range(600):
         tasks = small_chain(rng, 400, most_places=8)
-        answer = ref.warm_up(tasks)
-        way = literal_warm_up(tasks)
+        gap = choose_small(rng, tasks)
+        answer = ref.warm_up(tasks, gap)
+        way = literal_warm_up(tasks, gap)
         x0 = tasks[0][2] + way[0] * tasks[0][0]
         same(answer, ("ok", way, x0, literal_hyperperiod(tasks)),
-             "warm-up %r" % (tasks,))
-        same(ref.warm_up_job_by_bisection(tasks), way[-1],
-             "bisection %r" % (tasks,))
+             "warm-up %r gap %d" % (tasks, gap))
+        same(ref.warm_up_job_by_bisection(tasks, gap), way[-1],
+             "bisection %r gap %d" % (tasks, gap))
     # Large chains: the answer is compared with the bisection.
-    for _ in range(600):
+    for turn in range(600):
         tasks = large_chain(rng)
-        same(ref.warm_up(tasks)[1][-1], ref.warm_up_job_by_bisection(tasks),
-             "large warm-up %r" % (tasks,))
+        gap = choose_large(rng, tasks)
+        if gap and turn % 2:
+            tasks = tightened(rng, tasks, gap)
+        same(ref.warm_up(tasks, gap)[1][-1],
+             ref.warm_up_job_by_bisection(tasks, gap),
+             "large warm-up %r gap %d" % (tasks, gap))
     # Some of them can be searched literally, job by job.
     for _ in range(40):
         tasks = [(T * 997, D, F) for T, D, F in large_chain(rng)
                  if T <= 1_000]
         if tasks and math.lcm(*[T for T, _D, _F in tasks]) <= 60_000_000:
-            same(ref.warm_up(tasks)[1], literal_warm_up(tasks),
-                 "literal warm-up %r" % (tasks,))
+            gap = choose_large(rng, tasks)
+            same(ref.warm_up(tasks, gap)[1], literal_warm_up(tasks, gap),
+                 "literal warm-up %r gap %d" % (tasks, gap))
+
+
+def group_warm_up(rng):
+    warm_ups(rng, no_gap, no_gap)
+
+
+def group_warm_up_with_gaps(rng):
+    warm_ups(rng, small_gap, wide_gap)
 
 
 # ---------------------------------------------------------------------------
 # Demand 3
 # ---------------------------------------------------------------------------
 
-def group_demand_3(rng):
+def demand_3(rng, choose):
     for number in range(400):
         tasks = small_chain(rng, 60 if number % 10 else 240,
                             most_places=5 if number % 7 else 12)
-        _ok, way, x0, H = ref.warm_up(tasks)
+        gap = choose(rng, tasks)
+        chain = "%r gap %d" % (tasks, gap)
+        _ok, way, x0, H = ref.warm_up(tasks, gap)
         # The walk over three hyperperiods, and literally over the first.
-        delays = [ref.delay(tasks, x0 + offset)[1] for offset in range(3 * H)]
+        delays = [ref.delay(tasks, gap, x0 + offset)[1]
+                  for offset in range(3 * H)]
         same(delays[:H],
-             [literal_delay(tasks, x0 + offset) for offset in range(H)],
-             "walk against literal walk %r" % (tasks,))
+             [literal_delay(tasks, gap, x0 + offset) for offset in range(H)],
+             "walk against literal walk " + chain)
         # The age over three hyperperiods, and literally over the first.
         z0 = tasks[-1][2] + way[-1] * tasks[-1][0] + tasks[-1][1]
-        ages = [ref.age(tasks, z0 + offset)[1] for offset in range(3 * H)]
+        ages = [ref.age(tasks, gap, z0 + offset)[1] for offset in range(3 * H)]
         same(ages[:H],
-             [literal_age(tasks, z0 + offset) for offset in range(H)],
-             "age against literal age %r" % (tasks,))
-        same(ref.age(tasks, z0 - 1), ("refused", 12, 0), "age too early")
-        same(1 + max(ages), max(delays), "age and delay %r" % (tasks,))
+             [literal_age(tasks, gap, z0 + offset) for offset in range(H)],
+             "age against literal age " + chain)
+        same(ref.age(tasks, gap, z0 - 1), ("refused", 12, 0), "age too early")
+        same(1 + max(ages), max(delays), "age and delay " + chain)
         from_delays = anchors_from_delays(delays[:H], x0)
         # The first anchor is not redundant in the next hyperperiod.
         same(anchors_from_delays(delays[:2 * H], x0),
              from_delays + [(start + H, latency)
                             for start, latency in from_delays],
-             "anchors repeat %r" % (tasks,))
+             "anchors repeat " + chain)
         far = [UPPER - rng.randint(0, 5 * H) for _ in range(5)] + [UPPER]
         for p in range(1, len(tasks) + 1):
-            what = "%r cut at %d" % (tasks, p)
+            what = "%s cut at %d" % (chain, p)
             junk = [rng.randint(0, 99) for _ in range(H + 3)]
-            answer, starts, latencies = ref.make(tasks, p, junk, junk)
+            answer, starts, latencies = ref.make(tasks, gap, p, junk, junk)
             g = answer[1]
             same(answer,
                  ("ok", len(from_delays), x0, H, H // tasks[p - 1][0]),
                  "made " + what)
             same(list(zip(starts, latencies))[:g], from_delays,
                  "anchors " + what)
-            same(ref.anchors(tasks, p), from_delays, "anchors " + what)
-            same(len(ref.partitions(tasks, p)), H // tasks[p - 1][0],
+            same(ref.anchors(tasks, gap, p), from_delays, "anchors " + what)
+            same(len(ref.partitions(tasks, gap, p)), H // tasks[p - 1][0],
                  "partitions " + what)
             same((starts[g:], latencies[g:]), (junk[g:], junk[g:]),
                  "entries from g on " + what)
@@ -497,7 +575,15 @@ def group_demand_3(rng):
                      ("ok", one), "table at %d %s" % (x0 + offset, what))
             for t in far:
                 same(ref.read_table(starts, latencies, g, H, t),
-                     ref.delay(tasks, t), "table at %d %s" % (t, what))
+                     ref.delay(tasks, gap, t), "table at %d %s" % (t, what))
+
+
+def group_demand_3(rng):
+    demand_3(rng, no_gap)
+
+
+def group_demand_3_with_gaps(rng):
+    demand_3(rng, small_gap)
 
 
 # ---------------------------------------------------------------------------
@@ -560,6 +646,22 @@ def group_figures(rng):
     # The delays are 60,000,000 down to 2.
     same(ref.sum_by_segments(*one), 60_000_000 * 60_000_001 // 2 - 1,
          "sum at the limit")
+    # The limits of order 5: the delays are 60,011,000 down to 11,001.
+    one = ([1_000_000_000], [60_011_000], 1, 60_000_000)
+    same(ref.greatest(*one), ("ok", 60_011_000), "greatest at the limit")
+    same(ref.low(*one), ("ok", 11_000), "low at the limit of order 5")
+    same(ref.exceedance(*one, 11_000), ("ok", "endless"), "endless there")
+    same(ref.exceedance(*one, 11_001), ("ok", 59_999_999), "run there")
+    same(ref.exceedance(*one, 60_010_999), ("ok", 1), "shortest run there")
+    same(ref.exceedance(*one, 60_011_000), ("ok", 0), "no run there")
+    same(ref.sum_by_segments(*one),
+         60_011_000 * 60_011_001 // 2 - 11_000 * 11_001 // 2, "sum there")
+    # 60,000,000 times 60,022,000, which is 60,011,000 and 11,000 together.
+    same(ref.mean(*one), ("ok", 3_601_320_000_000_000, 120_000_000),
+         "mean there")
+    same(ref.read_table(*one, 1_000_000_000), ("ok", 60_011_000),
+         "reading at the limit")
+    same(ref.read_table(*one, 1_059_999_999), ("ok", 11_001), "last tick")
 
 
 # ---------------------------------------------------------------------------
@@ -571,22 +673,18 @@ FINER = (1, 2, 3, 5, 10)
 
 def limit_table(rng):
     """A random well-formed table with values up to the limits."""
-    while True:
-        H = rng.choice([1, 2, 19_999, 20_000, 20_001, 59_999_999, 60_000_000,
-                        rng.randint(1, 40_000), rng.randint(1, 60_000_000)])
-        g = rng.randint(1, min(H, 6))
-        # One piece of 60,000,000 ticks is too long for any latency.
-        if g == 1 and H == 60_000_000:
-            continue
-        first = rng.choice([0, rng.randint(0, 50), 1_000_000_000])
-        offsets = [0] + sorted(rng.sample(range(1, H), g - 1))
-        starts = [first + offset for offset in offsets]
-        latencies = []
-        for start, end in zip(starts, starts[1:] + [first + H]):
-            least = end - start + 1
-            latencies.append(rng.choice([least, 60_000_000,
-                                         rng.randint(least, 60_000_000)]))
-        return starts + [0], latencies + [0], g, H
+    H = rng.choice([1, 2, 19_999, 20_000, 20_001, 59_999_999, 60_000_000,
+                    rng.randint(1, 40_000), rng.randint(1, 60_000_000)])
+    g = rng.randint(1, min(H, 6))
+    first = rng.choice([0, rng.randint(0, 50), 1_000_000_000])
+    offsets = [0] + sorted(rng.sample(range(1, H), g - 1))
+    starts = [first + offset for offset in offsets]
+    latencies = []
+    for start, end in zip(starts, starts[1:] + [first + H]):
+        least = end - start + 1
+        latencies.append(rng.choice([least, 60_011_000,
+                                     rng.randint(least, 60_011_000)]))
+    return starts + [0], latencies + [0], g, H
 
 
 def delay_at_time(starts, latencies, g, H, time):
@@ -604,6 +702,7 @@ def delay_at_time(starts, latencies, g, H, time):
 def group_mean_by_hand(_rng):
     million = 1_000_000
     most = 60 * million
+    longest = 60_011_000
     # A table, its pieces as (length, delay at the start, delay at the end),
     # and the two numbers.  Twice a piece's area is its length times the sum
     # of its two delays.
@@ -618,8 +717,10 @@ def group_mean_by_hand(_rng):
          [(2, 4, 2), (4, 9, 5)], 68, 12),
         ("two anchors in two ticks", ([4, 5], [2, 3], 2, 2),
          [(1, 2, 1), (1, 3, 2)], 8, 4),
-        ("H one, latency at its limit", ([1_000 * million], [most], 1, 1),
+        ("H one, latency 60,000,000", ([1_000 * million], [most], 1, 1),
          [(1, most, 59_999_999)], 119_999_999, 2),
+        ("H one, latency at its limit", ([1_000 * million], [longest], 1, 1),
+         [(1, longest, 60_010_999)], 120_021_999, 2),
         # 20,000 times 20,002 is 20,001 squared less one, and 20,001 times
         # 20,003 is 20,002 squared less one.
         ("last H tick by tick", ([0], [20_001], 1, 20_000),
@@ -627,16 +728,18 @@ def group_mean_by_hand(_rng):
         ("first H anchor by anchor", ([0], [20_002], 1, 20_001),
          [(20_001, 20_002, 1)], 400_080_003, 40_002),
         # 60,000,000 squared less one.
-        ("one anchor at the limits", ([1_000 * million], [most], 1,
-                                      59_999_999),
+        ("one anchor, low 1", ([1_000 * million], [most], 1, 59_999_999),
          [(59_999_999, most, 1)], 3_599_999_999_999_999, 119_999_998),
         # The same piece and 3 more.
         ("H at its limit", ([0, 1], [2, most], 2, most),
          [(1, 2, 1), (59_999_999, most, 1)], 3_600_000_000_000_002,
          120 * million),
+        # 60,000,000 times 60,022,000.
+        ("one anchor at the limits", ([1_000 * million], [longest], 1, most),
+         [(most, longest, 11_000)], 3_601_320_000_000_000, 120 * million),
         # 2 times 119,999,998 is 239,999,996.  59,999,998 times 60,000,002
         # is 60,000,000 squared less four.
-        ("H and latencies at the limit", ([7, 9], [most, most], 2, most),
+        ("H and latencies 60,000,000", ([7, 9], [most, most], 2, most),
          [(2, most, 59_999_998), (59_999_998, most, 2)],
          3_600_000_239_999_992, 120 * million),
         ("two halves", ([0, 30 * million], [most, most], 2, most),
@@ -646,6 +749,11 @@ def group_mean_by_hand(_rng):
         ("many anchors", (list(range(0, most, 1_000)), [most] * 60_000,
                           60_000, most),
          [(1_000, most, 59_999_000)] * 60_000, 7_199_940_000_000_000,
+         120 * million),
+        # 60,000,000 times 120,021,000.
+        ("many anchors at the limits", (list(range(0, most, 1_000)),
+                                        [longest] * 60_000, 60_000, most),
+         [(1_000, longest, 60_010_000)] * 60_000, 7_201_260_000_000_000,
          120 * million),
     ]
     for what, table, pieces, above, below in cases:
@@ -665,15 +773,20 @@ def group_mean_by_hand(_rng):
     same(Fraction(ref.sum_by_enumeration(*TABLE_A), 12)
          - Fraction(*ref.mean(*TABLE_A)[1:]), Fraction(1, 2),
          "half a tick too much")
-    # The same from the chains themselves.
-    chains = [(CHAIN_A, 336, 24), ([(10, 3, 5)], 160, 20),
-              ([(5, 5, 0), (5, 5, 0)], 125, 10),
-              ([(10, 2, 0), (10, 1, 95)], 220, 20), ([(1, 1, 0)], 3, 2)]
-    for tasks, above, below in chains:
+    # The same from the chains themselves.  C with gap 1 falls from 20 to 15
+    # in 5 ticks, A with gap 1 from 18 to 14 in 4 and from 20 to 12 in 8.
+    chains = [(CHAIN_A, 0, 336, 24), ([(10, 3, 5)], 0, 160, 20),
+              ([(5, 5, 0), (5, 5, 0)], 0, 125, 10),
+              ([(10, 2, 0), (10, 1, 95)], 0, 220, 20),
+              ([(1, 1, 0)], 0, 3, 2), ([(1, 1, 0)], 1_000, 3, 2),
+              ([(5, 5, 0), (5, 5, 0)], 1, 175, 10), (CHAIN_A, 1, 384, 24)]
+    for tasks, gap, above, below in chains:
         for p in range(1, len(tasks) + 1):
-            answer, starts, latencies = ref.make(tasks, p, [5] * 4, [6] * 4)
+            answer, starts, latencies = ref.make(tasks, gap, p, [5] * 4,
+                                                 [6] * 4)
             same(ref.mean(starts, latencies, answer[1], answer[3]),
-                 ("ok", above, below), "%r cut at %d" % (tasks, p))
+                 ("ok", above, below),
+                 "%r gap %d cut at %d" % (tasks, gap, p))
 
 
 def check_printed_means(text, what):
@@ -690,6 +803,22 @@ def check_printed_means(text, what):
         same(figures["mean"], [str(above), str(below)], what)
         means += 1
     return means
+
+
+def printed_means(rng, choose):
+    """Reports in which two chains of three have H beyond the limit."""
+    means = 0
+    for turn in range(20):
+        chains = [small_chain(rng, 120, 4)]
+        while len(chains) < 3:
+            tasks = large_chain(rng)[:6]
+            H = math.lcm(*[task[0] for task in tasks])
+            if 20_000 < H <= 300 * max(task[0] for task in tasks):
+                chains.append(tasks)
+        gap = choose(rng, *chains)
+        file = file_of(*schedule_of_chains(rng, chains), gap)
+        means += check_printed_means(ref.report(file), "report %d" % turn)
+    same(means, 60, "printed means")
 
 
 def group_mean_by_area(rng):
@@ -732,26 +861,14 @@ def group_mean_by_area(rng):
                      [n * delay_at_time(*table, starts[0] + Fraction(k, n))
                       for k in range(n * H)], "finer delays " + what)
             if n * starts[0] <= 1_000_000_000 \
-                    and n * max(latencies[:g]) <= 60_000_000:
+                    and n * max(latencies[:g]) <= 60_011_000:
                 same(ref.mean(*finer), ("ok", n * n * above, n * below),
                      "finer mean " + what)
                 finer_means += 1
     same(len(methods), 4, "both methods, one anchor and several")
     same(finer_means > 1_000, True, "finer means")
-    # Reports: two chains of three have H beyond the limit.
-    means = 0
-    for turn in range(20):
-        chains = [small_chain(rng, 120, 4)]
-        while len(chains) < 3:
-            tasks = large_chain(rng)[:6]
-            H = math.lcm(*[task[0] for task in tasks])
-            if 20_000 < H <= 300 * max(task[0] for task in tasks):
-                chains.append(tasks)
-        tasks, numbers = schedule_of_chains(rng, chains)
-        file = b"".join(task_record(*task) for task in tasks)
-        file += b"".join(map(chain_record, numbers)) + END
-        means += check_printed_means(ref.report(file), "report %d" % turn)
-    same(means, 60, "printed means")
+    printed_means(rng, no_gap)
+    printed_means(rng, wide_gap)
     # A refused chain between two others prints no mean.
     file = task_record(1, 1_024, 1, 0) + task_record(2, 1_025, 1, 0) \
         + task_record(3, 1_026, 1, 0) + chain_record([1, 2]) \
@@ -760,11 +877,16 @@ def group_mean_by_area(rng):
          "printed means beside 11")
 
 
-def group_mean_on_finer_clocks(rng):
+def finer_gap(rng, tasks):
+    """A random gap that also a clock 10 times finer can have."""
+    return min(small_gap(rng, tasks), 100)
+
+
+def means_on_finer_clocks(rng, choose):
     """The mean against the walk alone, with presses between whole ticks.
 
-    On a clock n times finer every period, duration and phase is n times as
-    large, and a press may fall on n ticks where there was one.
+    On a clock n times finer every period, duration and phase and the gap is
+    n times as large, and a press may fall on n ticks where there was one.
     """
     chains = [CHAIN_A, [(10, 3, 5)], [(5, 5, 0), (5, 5, 0)],
               [(10, 2, 0), (10, 1, 95)], [(1, 1, 0)], [(1, 1, 0)] * 12,
@@ -773,28 +895,32 @@ def group_mean_on_finer_clocks(rng):
     # One whose mean is had anchor by anchor: H is 20,010.
     chains.append([(138, 9, 3), (145, 200, 31)])
     for tasks in chains:
-        _ok, way, x0, H = ref.warm_up(tasks)
+        gap = choose(rng, tasks)
+        _ok, way, x0, H = ref.warm_up(tasks, gap)
         p = rng.randint(1, len(tasks))
-        answer, starts, latencies = ref.make(tasks, p, [0] * H, [0] * H)
+        answer, starts, latencies = ref.make(tasks, gap, p, [0] * H, [0] * H)
         _ok, above, below = ref.mean(starts, latencies, answer[1], H)
         integral = Fraction(above, below) * H
-        whole = [literal_delay(tasks, x0 + offset) for offset in range(H)]
+        whole = [literal_delay(tasks, gap, x0 + offset) for offset in range(H)]
         sums = {}
         clocks = FINER if H <= 1_000 else (1, 3)
         for n in clocks:
-            what = "%r on a clock %d times finer" % (tasks, n)
+            what = "%r gap %d on a clock %d times finer" % (tasks, gap, n)
             finer = [(n * T, n * D, n * F) for T, D, F in tasks]
-            same(ref.warm_up(finer), ("ok", way, n * x0, n * H), what)
-            walk = [ref.walked_delay(finer, n * x0 + k) for k in range(n * H)]
+            same(ref.warm_up(finer, n * gap), ("ok", way, n * x0, n * H),
+                 what)
+            walk = [ref.walked_delay(finer, n * gap, n * x0 + k)
+                    for k in range(n * H)]
             # The delay falls within each tick.
             same(walk, [n * one - i for one in whole for i in range(n)],
                  "delays of " + what)
             # The clock does not matter: a press at a time between ticks.
             k = rng.randrange(n * H)
             same(Fraction(walk[k], n),
-                 Fraction(literal_delay(tasks, x0 + Fraction(k, n))),
+                 Fraction(literal_delay(tasks, gap, x0 + Fraction(k, n))),
                  "literal walk of " + what)
-            same(ref.delay(finer, n * x0 + k), ("ok", walk[k]), what)
+            same(ref.delay(finer, n * gap, n * x0 + k), ("ok", walk[k]),
+                 what)
             # A finer tick is 1/n wide and its delays count n-ths.  Within
             # it the delay begins at the walk's and never falls by more than
             # one finer tick.  So the integral lies between two sums, which
@@ -806,7 +932,8 @@ def group_mean_on_finer_clocks(rng):
             same(integral < upper, True, "sum from above, " + what)
             sums[n] = upper
             # The finer chain's own table and mean.
-            answer, starts, latencies = ref.make(finer, p, [0] * H, [0] * H)
+            answer, starts, latencies = ref.make(finer, n * gap, p, [0] * H,
+                                                 [0] * H)
             same(ref.mean(starts, latencies, answer[1], n * H),
                  ("ok", n * n * above, n * below), "mean of " + what)
         # The sums from above lie on a line over 1/n.  Its value at 0, where
@@ -814,6 +941,14 @@ def group_mean_on_finer_clocks(rng):
         for n, m in itertools.combinations(clocks, 2):
             same((m * sums[m] - n * sums[n]) / (m - n), integral,
                  "limit of the sums for %d and %d, %r" % (n, m, tasks))
+
+
+def group_mean_on_finer_clocks(rng):
+    means_on_finer_clocks(rng, no_gap)
+
+
+def group_mean_on_finer_clocks_with_gaps(rng):
+    means_on_finer_clocks(rng, finer_gap)
 
 
 # ---------------------------------------------------------------------------
@@ -836,12 +971,20 @@ def group_well_formed(_rng):
         ("middle latency equal", starts, [5, 5, 7, 0], g, H),
         ("last latency equal", starts, [5, 6, 6, 0], g, H),
         ("latency zero", starts, [0, 6, 7, 0], g, H),
-        ("latency above its limit", starts, [60_000_001, 6, 7, 0], g, H),
+        ("latency above its limit", starts, [60_011_001, 6, 7, 0], g, H),
+        ("middle latency above its limit", starts, [5, 60_011_001, 7, 0], g,
+         H),
+        ("last latency above its limit", starts, [5, 6, 60_011_001, 0], g,
+         H),
         ("empty lists", [], [], 0, H),
         ("empty lists, g one", [], [], 1, H),
         ("first start above", [1_000_000_001], [20], 1, 15),
         ("H above", [0], [60_000_000], 1, 60_000_001),
-        ("H at the limit leaves no latency", [0], [60_000_000], 1,
+        ("H above, latency above the distance", [0], [60_011_000], 1,
+         60_000_001),
+        ("H at the limit, latency of the distance", [0], [60_000_000], 1,
+         60_000_000),
+        ("H at the limit, latency above its limit", [0], [60_011_001], 1,
          60_000_000),
     ]
     for what, s, latency, count, hyper in faults:
@@ -854,7 +997,14 @@ def group_well_formed(_rng):
         same(ref.throughput(s, latency, count, hyper), refusal, what)
         same(ref.exceedance(s, latency, count, hyper, 0), refusal, what)
     passes = [
-        ("latency at its limit", starts, [60_000_000, 6, 7, 0], g, H),
+        ("latency 60,000,000", starts, [60_000_000, 6, 7, 0], g, H),
+        ("latency 60,000,001", starts, [60_000_001, 6, 7, 0], g, H),
+        ("latency at its limit", starts, [60_011_000, 6, 7, 0], g, H),
+        ("middle latency at its limit", starts, [5, 60_011_000, 7, 0], g, H),
+        ("last latency at its limit", starts, [5, 6, 60_011_000, 0], g, H),
+        ("one anchor, H at its limit", [0], [60_000_001], 1, 60_000_000),
+        ("one anchor at the limits", [1_000_000_000], [60_011_000], 1,
+         60_000_000),
         ("first start at its limit", [1_000_000_000], [16], 1, 15),
         ("H at its limit", [0, 1], [2, 60_000_000], 2, 60_000_000),
         ("exact length", starts[:3], latencies[:3], 3, H),
@@ -874,18 +1024,25 @@ def group_well_formed(_rng):
     same((UPPER - 5) % 15, 5, "remainder")
     same(ref.read_table(starts, latencies, g, H, UPPER), ("ok", 5),
          "upper tick")
+    # A table of order 5, and one latency more.
+    same(ref.read_table([0], [60_011_000], 1, 60_000_000, 0),
+         ("ok", 60_011_000), "the greatest delay")
+    same(ref.read_table([0], [60_011_001], 1, 60_000_000, 0),
+         ("refused", 14, 0), "a latency more")
 
 
 # ---------------------------------------------------------------------------
 # Making and the refusals of the calls
 # ---------------------------------------------------------------------------
 
-def group_making(rng):
+def makings(rng, choose):
     for _ in range(150):
         tasks = small_chain(rng, 60)
-        _ok, _way, x0, H = ref.warm_up(tasks)
+        gap = choose(rng, tasks)
+        _ok, _way, x0, H = ref.warm_up(tasks, gap)
         found = anchors_from_delays(
-            [literal_delay(tasks, x0 + offset) for offset in range(H)], x0)
+            [literal_delay(tasks, gap, x0 + offset) for offset in range(H)],
+            x0)
         p = rng.randint(1, len(tasks))
         walked = H // tasks[p - 1][0]
         g = len(found)
@@ -900,19 +1057,28 @@ def group_making(rng):
             expected = (answer,
                         ([s for s, _l in found] + starts[g:])[:length],
                         ([l for _s, l in found] + latencies[g:])[:length])
-            same(ref.make(tasks, p, starts, latencies), expected,
-                 "make %r cut at %d, %d entries" % (tasks, p, length))
+            same(ref.make(tasks, gap, p, starts, latencies), expected,
+                 "make %r gap %d cut at %d, %d entries"
+                 % (tasks, gap, p, length))
             same((starts, latencies), before, "the lists given stay")
         lists = ([1, 2], [3, 4])
         for wrong in (0, len(tasks) + 1, 2 ** 64 - 1):
-            same(ref.make(tasks, wrong, *lists),
+            same(ref.make(tasks, gap, wrong, *lists),
                  (("refused", 9, 0), *lists), "p outside")
-            same(ref.make(tasks, wrong, [1], [3, 4]),
+            same(ref.make(tasks, gap, wrong, [1], [3, 4]),
                  (("refused", 9, 0), [1], [3, 4]), "9 before 10")
-        same(ref.make(tasks, p, [1], [3, 4]),
+        same(ref.make(tasks, gap, p, [1], [3, 4]),
              (("refused", 10, 0), [1], [3, 4]), "unequal lengths")
-        same(ref.make(tasks, p, [1], []), (("refused", 10, 0), [1], []),
+        same(ref.make(tasks, gap, p, [1], []), (("refused", 10, 0), [1], []),
              "10 before 11")
+
+
+def group_making(rng):
+    makings(rng, no_gap)
+
+
+def group_making_with_gaps(rng):
+    makings(rng, small_gap)
 
 
 def group_call_refusals(_rng):
@@ -922,13 +1088,26 @@ def group_call_refusals(_rng):
     limit = [(1, 1, 0), (1_000_000, 4_000_000, 1_000_000)]
     huge = [(999_983, 1, 0), (999_979, 1, 0)]
 
+    def refused_with(tasks, gap, refusal):
+        same(ref.check_chain(tasks, gap), refusal, "check_chain")
+        same(ref.warm_up(tasks, gap), refusal, "warm_up")
+        for t in (0, UPPER + 1):
+            same(ref.delay(tasks, gap, t), refusal, "delay")
+            same(ref.age(tasks, gap, t), refusal, "age")
+        for p in (0, 1):
+            same(ref.make(tasks, gap, p, [1], [2, 3]),
+                 (refusal, [1], [2, 3]), "make")
+            same(ref.make(tasks, gap, p, [], []), (refusal, [], []), "make")
+        for k in (0, 1):
+            same(ref.windows(tasks, gap, 0, k), refusal, "windows")
+
     def all_calls(tasks, refusal):
-        same(ref.check_chain(tasks), refusal, "check_chain")
-        same(ref.warm_up(tasks), refusal, "warm_up")
-        same(ref.delay(tasks, UPPER + 1), refusal, "delay")
-        same(ref.age(tasks, UPPER + 1), refusal, "age")
-        same(ref.make(tasks, 0, [1], [2, 3]), (refusal, [1], [2, 3]), "make")
-        same(ref.windows(tasks, 0, 0), refusal, "windows")
+        """A gap above the limit comes after 8 and 5 and before 7."""
+        for gap in (0, 1, 1_000):
+            refused_with(tasks, gap, refusal)
+        for gap in (1_001, 2 ** 64 - 1):
+            refused_with(tasks, gap, refusal if refusal[1] in (8, 5)
+                         else ("refused", 5, 0))
 
     all_calls([], ("refused", 8, 0))
     all_calls([bad[0]] * 13, ("refused", 8, 0))
@@ -940,49 +1119,67 @@ def group_call_refusals(_rng):
             tasks[11] = one
             all_calls(tasks, ("refused", 5, place))
     all_calls(huge, ("refused", 7, 0))
-    same(ref.check_chain(limit), ("ok", 1_000_000), "limits pass")
-    same(ref.check_chain([good] * 12), ("ok", 10), "12 places pass")
+    # The gap alone is refused, also where there is no link, and before 9,
+    # 10, 12, 13 and 15, all of which would follow.
+    for tasks in ([good], [good] * 2, [good] * 12, limit, CHAIN_A):
+        for gap in (1_001, 1_002, 2_000, 65_536, 2 ** 32, 2 ** 32 + 1,
+                    2 ** 63, 2 ** 64 - 1):
+            refused_with(tasks, gap, ("refused", 5, 0))
+        for gap in (0, 1, 999, 1_000):
+            same(ref.check_chain(tasks, gap)[0], "ok", "gap %d" % gap)
+            same(ref.make(tasks, gap, 0, [1], [2, 3])[0], ("refused", 9, 0),
+                 "9 with gap %d" % gap)
+            same(ref.make(tasks, gap, 1, [1], [2, 3])[0], ("refused", 10, 0),
+                 "10 with gap %d" % gap)
+            same(ref.delay(tasks, gap, UPPER + 1), ("refused", 13, 0),
+                 "13 with gap %d" % gap)
+            same(ref.windows(tasks, gap, 0, 0), ("refused", 15, 0),
+                 "15 with gap %d" % gap)
+    same(ref.check_chain(limit, 0), ("ok", 1_000_000), "limits pass")
+    same(ref.check_chain([good] * 12, 0), ("ok", 10), "12 places pass")
     for k in (0, 101, 2 ** 64 - 1):
-        same(ref.windows([good], 0, k), ("refused", 15, 0), "k %d" % k)
+        same(ref.windows([good], 0, 0, k), ("refused", 15, 0), "k %d" % k)
     for k in (1, 100):
-        same(ref.windows([good], 0, k), ("ok", k, 1), "k %d" % k)
+        same(ref.windows([good], 0, 0, k), ("ok", k, 1), "k %d" % k)
     # Ticks: the write of the warm-up job and the upper tick.
-    same(ref.delay([good], UPPER)[0], "ok", "upper tick")
-    same(ref.delay([good], UPPER + 1), ("refused", 13, 0), "above")
-    same(ref.age([good], UPPER)[0], "ok", "upper tick")
-    same(ref.age([good], UPPER + 1), ("refused", 13, 0), "above")
-    same(ref.age([good], 0), ("refused", 12, 0), "before the write")
-    same(ref.age([good], 1), ("ok", 1), "at the write")
-    same(ref.delay([good], 0), ("ok", 11), "the press comes before")
+    same(ref.delay([good], 0, UPPER)[0], "ok", "upper tick")
+    same(ref.delay([good], 0, UPPER + 1), ("refused", 13, 0), "above")
+    same(ref.age([good], 0, UPPER)[0], "ok", "upper tick")
+    same(ref.age([good], 0, UPPER + 1), ("refused", 13, 0), "above")
+    same(ref.age([good], 0, 0), ("refused", 12, 0), "before the write")
+    same(ref.age([good], 0, 1), ("ok", 1), "at the write")
+    same(ref.delay([good], 0, 0), ("ok", 11), "the press comes before")
 
 
 # ---------------------------------------------------------------------------
 # Windows
 # ---------------------------------------------------------------------------
 
-def span_by_ticks(tasks, job):
+def span_by_ticks(tasks, gap, job):
     """A job's forward end less its own read, by letting ticks pass."""
     T, D, F = tasks[0]
     read = F + job * T
     tick = read + D
     for T, D, F in tasks[1:]:
-        # Equal ticks connect, so the write's own tick is tried first.
+        # The gap passes.  Equal ticks connect, so the tick at which the
+        # value becomes readable is tried first.
+        tick += gap
         while tick < F or (tick - F) % T:
             tick += 1
         tick += D
     return tick - read
 
 
-def literal_spans(tasks):
+def literal_spans(tasks, gap):
     """W1, the length of the range H/T1, and the spans of the jobs.
 
     The spans are those of all windows of up to 100 jobs that begin in a
     range twice as long.
     """
-    W1 = literal_warm_up(tasks)[0]
+    W1 = literal_warm_up(tasks, gap)[0]
     length = literal_hyperperiod(tasks) // tasks[0][0]
     jobs = range(W1 + 1, W1 + 2 * length + 100)
-    return W1, length, {j: span_by_ticks(tasks, j) for j in jobs}
+    return W1, length, {j: span_by_ticks(tasks, gap, j) for j in jobs}
 
 
 def check_windows(found, W1, length, spans, B, k, what):
@@ -1027,57 +1224,69 @@ def bounds_around(spans):
                                       for more in (-1, 0, 1)})
 
 
-def group_windows(rng):
+def many_windows(rng, choose):
     met = {}
 
-    def check(tasks, B, k, own):
-        for kind in check_windows(ref.windows(tasks, B, k), *own, B, k,
-                                  repr(tasks)):
+    def check(tasks, gap, B, k, own):
+        for kind in check_windows(ref.windows(tasks, gap, B, k), *own, B, k,
+                                  "%r gap %d" % (tasks, gap)):
             met[kind] = met.get(kind, 0) + 1
 
     for _ in range(100):
         tasks = small_chain(rng, 60)
-        own = literal_spans(tasks)
+        gap = choose(rng, tasks)
+        own = literal_spans(tasks, gap)
         # A press one tick before job j's read is served by job j.
         T1, _D1, F1 = tasks[0]
         for j, span in own[2].items():
-            same(span, literal_delay(tasks, F1 + j * T1 - 1) - 1, "span")
+            same(span, literal_delay(tasks, gap, F1 + j * T1 - 1) - 1, "span")
         for B in bounds_around(own[2]):
             for k in (1, 2, 3, rng.randint(4, 98), 99, 100):
-                check(tasks, B, k, own)
+                check(tasks, gap, B, k, own)
     # With every phase of the second place the misses move through the
     # range: best windows early, late, and over its end.
     for T1, T2 in ((5, 7), (7, 5), (7, 11), (4, 9), (9, 4), (8, 13),
                    (13, 8), (5, 12)):
         for F in range(T1 + T2):
             tasks = [(T1, T1, 0), (T2, T2, F)]
-            own = literal_spans(tasks)
+            gap = choose(rng, tasks)
+            own = literal_spans(tasks, gap)
             for B in bounds_around(own[2]):
                 for k in (1, 2, 3, 4, 5):
-                    check(tasks, B, k, own)
+                    check(tasks, gap, B, k, own)
     # Three places, of which the last is the quicker one.
     for F in range(7):
         tasks = [(3, 2, 1), (7, 5, F), (4, 4, 0)]
-        own = literal_spans(tasks)
+        gap = choose(rng, tasks)
+        own = literal_spans(tasks, gap)
         for B in bounds_around(own[2]):
             for k in (1, 2, 3, 5, 99, 100):
-                check(tasks, B, k, own)
+                check(tasks, gap, B, k, own)
     # Ranges longer than the longest window.
     for tasks in ([(401, 401, 0), (503, 503, 400)], [(2, 1, 0), (251, 3, 9)],
                   [(3, 5, 1), (10, 3, 0), (101, 7, 50)],
                   [(1, 1, 0), (150, 20, 149)], [(7, 7, 3), (143, 1, 0)]):
-        own = literal_spans(tasks)
+        gap = choose(rng, tasks)
+        own = literal_spans(tasks, gap)
         same(own[1] > 100, True, "a long range")
         high = sorted(set(own[2].values()))
         for B in (high[0] - 1, high[0], high[len(high) // 3], high[-3],
                   high[-2], high[-1], rng.choice(high)):
             for k in (1, 2, 3, 10, 99, 100):
-                check(tasks, B, k, own)
+                check(tasks, gap, B, k, own)
     for kind in ("late in the range", "the last job of the range",
                  "over the end of the range",
                  "one of several, not the first job",
                  "after windows with fewer misses"):
         same(met.get(kind, 0) > 50, True, "often met: " + kind)
+
+
+def group_windows(rng):
+    many_windows(rng, no_gap)
+
+
+def group_windows_with_gaps(rng):
+    many_windows(rng, small_gap)
 
 
 def group_windows_by_hand(_rng):
@@ -1087,49 +1296,58 @@ def group_windows_by_hand(_rng):
     for B, k, expected in ((15, 1, (1, 1)), (15, 2, (2, 7)), (15, 3, (2, 6)),
                            (13, 3, (3, 6)), (17, 2, (1, 1)), (16, 2, (1, 1)),
                            (16, 4, (2, 1)), (18, 9, (0, 1)), (11, 9, (9, 1))):
-        same(ref.windows(tasks, B, k), ("ok", *expected),
+        same(ref.windows(tasks, 0, B, k), ("ok", *expected),
              "last window, B %d k %d" % (B, k))
     # W is 2, 1, 4.  Jobs 3, 4 and 5 have the spans 18, 15 and 16.
-    same(ref.windows([(3, 2, 1), (7, 5, 2), (4, 4, 0)], 14, 3), ("ok", 3, 3),
-         "three misses at once")
+    same(ref.windows([(3, 2, 1), (7, 5, 2), (4, 4, 0)], 0, 14, 3),
+         ("ok", 3, 3), "three misses at once")
     # Chain D: W1 is 9, and job 10 alone is in the range.  Its span is 6.
     chain_d = [(10, 2, 0), (10, 1, 95)]
     for B, k, expected in ((11, 2, (0, 10)), (6, 100, (0, 10)),
                            (5, 100, (100, 10)), (5, 1, (1, 10))):
-        same(ref.windows(chain_d, B, k), ("ok", *expected),
+        same(ref.windows(chain_d, 0, B, k), ("ok", *expected),
              "D B %d k %d" % (B, k))
     # The span is 904 and the wait for the read.  A wait of 502 needs
     # 401 (j + 1) = 401 modulo 503: job 0, which does not count, and job 503.
     # W1 is 1.  The earliest window that takes job 503 ends with it.
     tasks = [(401, 401, 0), (503, 503, 400)]
     for k in (1, 2, 3, 10, 99, 100):
-        same(ref.windows(tasks, 1405, k), ("ok", 1, 504 - k),
+        same(ref.windows(tasks, 0, 1405, k), ("ok", 1, 504 - k),
              "one miss in 503 jobs, k %d" % k)
-        same(ref.windows(tasks, 1406, k), ("ok", 0, 2), "no miss, k %d" % k)
+        same(ref.windows(tasks, 0, 1406, k), ("ok", 0, 2), "no miss, k %d" % k)
     # Job W1 itself waits longer than any later one, but does not count.
     tasks = [(100, 1, 0), (10, 1, 50)]
     for k in (1, 2, 100):
-        same(ref.windows(tasks, 20, k), ("ok", 0, 1), "W1 waits, k %d" % k)
-        same(ref.windows(tasks, 10, k), ("ok", k, 1), "all miss, k %d" % k)
+        same(ref.windows(tasks, 0, 20, k), ("ok", 0, 1), "W1 waits, k %d" % k)
+        same(ref.windows(tasks, 0, 10, k), ("ok", k, 1), "all miss, k %d" % k)
     # The largest values: each write is the next place's read.
     worst = [(1_000_000, 4_000_000, 1_000_000)] * 12
     for k in (1, 100):
-        same(ref.windows(worst, 48_000_000, k), ("ok", 0, 1), "span is B")
-        same(ref.windows(worst, 47_999_999, k), ("ok", k, 1), "span above B")
-        same(ref.windows(worst, 2 ** 64 - 1, k), ("ok", 0, 1), "largest B")
+        same(ref.windows(worst, 0, 48_000_000, k), ("ok", 0, 1), "span is B")
+        same(ref.windows(worst, 0, 47_999_999, k), ("ok", k, 1),
+             "span above B")
+        same(ref.windows(worst, 0, 2 ** 64 - 1, k), ("ok", 0, 1),
+             "largest B")
+        # With a gap each value waits for the next read, a period later.
+        for gap in (1, 1_000):
+            same(ref.windows(worst, gap, 59_000_000, k), ("ok", 0, 1),
+                 "span is B, gap %d" % gap)
+            same(ref.windows(worst, gap, 58_999_999, k), ("ok", k, 1),
+                 "span above B, gap %d" % gap)
 
 
-def group_windows_of_schedules(rng):
+def windows_of_schedules(rng, choose):
     for turn in range(60):
         chains = [small_chain(rng, 40) for _ in range(1 + turn % 4)]
-        arguments = schedule(*schedule_of_chains(rng, chains))
+        gap = choose(rng, *chains)
+        arguments = schedule(*schedule_of_chains(rng, chains), gap)
         for n, tasks in enumerate(chains, start=1):
-            own = literal_spans(tasks)
+            own = literal_spans(tasks, gap)
             for B in bounds_around(own[2]):
                 k = rng.choice([1, 2, 3, 99, 100, rng.randint(1, 100)])
                 found = ref.windows_of(*arguments, n, B, k)
-                check_windows(found, *own, B, k, "chain %d of %r"
-                              % (n, chains))
+                check_windows(found, *own, B, k, "chain %d of %r gap %d"
+                              % (n, chains, gap))
             for k in (0, 101, 2 ** 64 - 1):
                 same(ref.windows_of(*arguments, n, 0, k), ("refused", 15, 0),
                      "k %d" % k)
@@ -1137,14 +1355,28 @@ def group_windows_of_schedules(rng):
             for k in (0, 1, 100):
                 same(ref.windows_of(*arguments, n, 0, k), ("refused", 16, 0),
                      "chain number %d" % n)
+
+
+def group_windows_of_schedules(rng):
+    windows_of_schedules(rng, no_gap)
     # Chain A as the first, and as the last of four.
     tasks = [(1, 4, 4, 0), (2, 6, 6, 0), (9, 10, 3, 5)]
     for n, chains in ((1, [[1, 2]]), (4, [[9], [2], [2, 1], [1, 2]])):
-        arguments = schedule(tasks, chains)
+        arguments = schedule(tasks, chains, 0)
         for B, k, expected in ((11, 3, (2, 1)), (11, 2, (2, 3)),
                                (14, 3, (0, 1))):
             same(ref.windows_of(*arguments, n, B, k), ("ok", *expected),
                  "chain A as chain %d" % n)
+        # With gap 1 the spans of jobs 1, 2 and 3 are 14, 16 and 12.
+        arguments = schedule(tasks, chains, 1)
+        for B, k, expected in ((11, 2, (2, 1)), (14, 1, (1, 2)),
+                               (13, 2, (2, 1)), (13, 3, (2, 1))):
+            same(ref.windows_of(*arguments, n, B, k), ("ok", *expected),
+                 "chain A with gap 1 as chain %d" % n)
+
+
+def group_windows_of_schedules_with_gaps(rng):
+    windows_of_schedules(rng, small_gap)
 
 
 # ---------------------------------------------------------------------------
@@ -1166,7 +1398,28 @@ def chain_record(chain):
         + b"".join(le(number, 2) for number in chain)
 
 
+def gap_record(gap):
+    return le(6, 2) + le(4, 2) + le(gap, 2)
+
+
 END = le(4, 2) + le(3, 2)
+
+
+def records_of(tasks, chains, gap):
+    """The records of a schedule's file; a gap of 0 has none."""
+    return [task_record(*task) for task in tasks] \
+        + [chain_record(chain) for chain in chains] \
+        + [gap_record(gap)] * (gap != 0) + [END]
+
+
+def file_of(tasks, chains, gap):
+    return b"".join(records_of(tasks, chains, gap))
+
+
+def file_gap(rng):
+    """A random gap, often one at the ends of its bytes or of its limits."""
+    return rng.choice([0, 1, 2, 255, 256, 257, 999, 1_000,
+                       rng.randint(1, 1_000)])
 
 
 def random_schedule(rng):
@@ -1222,11 +1475,12 @@ def first_fault(data):
         earlier = records[:index]
         tasks_before = [at for at, _length, k in earlier if k == 1]
         chains_before = [at for at, _length, k in earlier if k == 2]
+        gaps_before = [at for at, _length, k in earlier if k == 4]
         if kind == 1:
             if length != 18:
                 faults.append((offset, 5, 2))
                 continue
-            if chains_before or len(tasks_before) >= 32:
+            if chains_before or gaps_before or len(tasks_before) >= 32:
                 faults.append((offset, 6, 4))
             number = number_at(data, offset + 4, 2)
             T, D, F = [number_at(data, offset + at, 4) for at in (6, 10, 14)]
@@ -1241,7 +1495,7 @@ def first_fault(data):
             if length % 2 or length < 6 or length > 28:
                 faults.append((offset, 5, 2))
                 continue
-            if len(chains_before) >= 4 or not tasks_before:
+            if len(chains_before) >= 4 or not tasks_before or gaps_before:
                 faults.append((offset, 6, 4))
             known = [number_at(data, at + 4, 2) for at in tasks_before]
             for at in range(offset + 4, offset + length, 2):
@@ -1252,6 +1506,14 @@ def first_fault(data):
                 faults.append((offset, 5, 2))
             if not chains_before:
                 faults.append((offset, 6, 4))
+        elif kind == 4:
+            if length != 6:
+                faults.append((offset, 5, 2))
+                continue
+            if gaps_before or not chains_before:
+                faults.append((offset, 6, 4))
+            if number_at(data, offset + 4, 2) not in range(1, 1_001):
+                faults.append((offset, 7, 5))
         else:
             faults.append((offset, 4, 3))
     # Nothing past the first end record is judged as a record.  A byte
@@ -1288,28 +1550,28 @@ def changed_file(rng, records):
     for _ in range(rng.choice([0, 1, 2])):
         if changed:
             changed[rng.randrange(len(changed))] = rng.choice(
-                [0, 1, 2, 3, 4, 18, 255, rng.randrange(256)])
+                [0, 1, 2, 3, 4, 6, 18, 232, 233, 255, rng.randrange(256)])
     if rng.random() < 0.2:
         del changed[rng.randint(0, len(changed)):]
     return bytes(changed)
 
 
-def group_file_round_trips(rng):
+def file_round_trips(rng, choose):
     counts = set()
     for _ in range(300):
         tasks, chains = random_schedule(rng)
-        counts.add(len(chains))
-        records = [task_record(*task) for task in tasks]
-        records += [chain_record(chain) for chain in chains] + [END]
+        gap = choose(rng)
+        counts.add((len(chains), gap > 0))
+        records = records_of(tasks, chains, gap)
         file = b"".join(records)
-        same(ref.read_file(file), ("ok", tasks, chains), "read")
+        same(ref.read_file(file), ("ok", tasks, chains, gap), "read")
         extra = rng.randint(0, 40)
         lent = bytes(rng.randrange(256) for _ in range(len(file) + extra))
-        same(ref.write_file(*schedule(tasks, chains), lent),
+        same(ref.write_file(*schedule(tasks, chains, gap), lent),
              (("ok", len(file)), file + lent[len(file):]), "written")
         for length in (len(file) - 1, rng.randrange(len(file))):
             short = lent[:length]
-            same(ref.write_file(*schedule(tasks, chains), short),
+            same(ref.write_file(*schedule(tasks, chains, gap), short),
                  (("refused", 11, 0), short), "lent bytes short")
         # A file cut anywhere is 1 at the record that is cut or missing.
         begins = [0]
@@ -1329,14 +1591,24 @@ def group_file_round_trips(rng):
             changed = changed_file(rng, records)
             answer = ref.read_file(changed)
             if answer[0] == "ok":
-                back = ref.write_file(*schedule(answer[1], answer[2]),
-                                      bytes(700))
+                back = ref.write_file(*schedule(*answer[1:]), bytes(700))
                 same(back, (("ok", len(changed)),
                             changed + bytes(700 - len(changed))),
                      "accepted and written back")
             same(answer[:3] if answer[0] == "refused" else None,
                  first_fault(changed), "first fault of %s" % changed.hex())
-    same(counts, {1, 2, 3, 4}, "1 to 4 chains were met")
+    return counts
+
+
+def group_file_round_trips(rng):
+    same(file_round_trips(rng, no_gap),
+         {(chains, False) for chains in range(1, 5)}, "1 to 4 chains were met")
+
+
+def group_file_round_trips_with_gaps(rng):
+    same(file_round_trips(rng, file_gap),
+         {(chains, gap) for chains in range(1, 5) for gap in (False, True)},
+         "1 to 4 chains were met, with a gap and without")
 
 
 def group_file_faults(_rng):
@@ -1356,7 +1628,8 @@ def group_file_faults(_rng):
         ("length past the file", le(19, 2) + le(9, 2) + body14, 1, 0),
         ("length 65,535", le(65_535, 2) + le(9, 2), 1, 0),
         ("kind 0", le(4, 2) + le(0, 2), 3, 0),
-        ("kind 4", one + le(5, 2) + le(4, 2) + b"x", 3, 18),
+        ("kind 5", one + le(5, 2) + le(5, 2) + b"x", 3, 18),
+        ("kind 4 of length 5", one + le(5, 2) + le(4, 2) + b"x", 2, 18),
         ("kind 256", one + le(4, 2) + le(256, 2), 3, 18),
         ("task of 17", le(17, 2) + le(1, 2) + body14, 2, 0),
         ("task of 19", le(19, 2) + le(1, 2) + body14 + b"x", 2, 0),
@@ -1414,22 +1687,92 @@ def group_file_faults(_rng):
         same(ref.report(data), b"refused %d %d\n" % (number, offset), what)
     largest = many + chain_record([32] * 12) * 4 + END
     same(ref.read_file(largest),
-         ("ok", [(n, 10, 1, 0) for n in range(1, 33)], [[32] * 12] * 4),
-         "largest file")
-    same(len(largest), 692, "largest length")
+         ("ok", [(n, 10, 1, 0) for n in range(1, 33)], [[32] * 12] * 4, 0),
+         "largest file without a gap")
+    same(len(largest), 692, "its length")
+    largest = many + chain_record([32] * 12) * 4 + gap_record(1_000) + END
+    same(ref.read_file(largest),
+         ("ok", [(n, 10, 1, 0) for n in range(1, 33)], [[32] * 12] * 4,
+          1_000), "largest file")
+    same(len(largest), 698, "largest length")
     for count in range(1, 5):
         same(ref.read_file(one + two + chain * count + END),
-             ("ok", [(3, 10, 2, 0), (7, 20, 5, 1)], [[3, 7]] * count),
+             ("ok", [(3, 10, 2, 0), (7, 20, 5, 1)], [[3, 7]] * count, 0),
              "%d equal chains" % count)
+        same(ref.read_file(one + two + chain * count + gap_record(7) + END),
+             ("ok", [(3, 10, 2, 0), (7, 20, 5, 1)], [[3, 7]] * count, 7),
+             "%d equal chains and a gap" % count)
+
+
+def group_gap_records(rng):
+    """A record of kind 4 at every turn, with every length and value."""
+    one = task_record(1, 4, 4, 0)
+    two = task_record(2, 6, 6, 0)
+    chain = chain_record([1, 2])
+    # The records before, and the chains in them where a gap may follow.
+    beginnings = [(b"", 0), (one, 0), (one + two, 0)]
+    beginnings += [(one + two + chain * count, count)
+                   for count in range(1, 5)]
+    beginnings += [(one + two + chain + gap_record(5), 0)]
+    # What comes after the gap: a refusal's number and its offset from there.
+    endings = [(END, None), (b"", (1, 0)), (chain, (4, 0)), (two, (4, 0)),
+               (gap_record(3), (4, 0)), (END + END, (4, 4)),
+               (le(4, 2) + le(9, 2), (3, 0))]
+    for before, chains in beginnings:
+        for value in (0, 1, 2, 255, 256, 257, 999, 1_000, 1_001, 1_024,
+                      4_096, 32_768, 65_535):
+            for length in range(12):
+                body = (le(value, 2) + bytes(8))[:max(0, length - 4)]
+                record = le(length, 2) + le(4, 2) + body
+                for after, fault in endings:
+                    if length != 6:
+                        expected = ("refused", 2, len(before))
+                    elif not chains:
+                        expected = ("refused", 4, len(before))
+                    elif not 1 <= value <= 1_000:
+                        expected = ("refused", 5, len(before))
+                    elif fault is not None:
+                        expected = ("refused", fault[0],
+                                    len(before) + len(record) + fault[1])
+                    else:
+                        expected = ("ok", [(1, 4, 4, 0), (2, 6, 6, 0)],
+                                    [[1, 2]] * chains, value)
+                    same(ref.read_file(before + record + after), expected,
+                         "%d bytes, value %d, length %d, then %s"
+                         % (len(before), value, length, after.hex()))
+                # Cut inside the record: it runs past the file.
+                if length > 4:
+                    same(ref.read_file((before + record)[:-1]),
+                         ("refused", 1, len(before)), "cut gap")
+    # One spelling: what is read is written back as the same bytes.
+    for gap in range(1_003):
+        file = file_of([(1, 4, 4, 0)], [[1]], gap)
+        if gap > 1_000:
+            same(ref.read_file(file), ("refused", 5, 24), "gap %d" % gap)
+            same(ref.write_file(*schedule([(1, 4, 4, 0)], [[1]], gap),
+                                b"x" * 40),
+                 (("refused", 5, 0), b"x" * 40), "gap %d" % gap)
+            continue
+        same(len(file), 34 if gap else 28, "length with gap %d" % gap)
+        answer = ref.read_file(file)
+        same(answer, ("ok", [(1, 4, 4, 0)], [[1]], gap), "gap %d" % gap)
+        extra = bytes(rng.randrange(256) for _ in range(rng.randrange(3)))
+        same(ref.write_file(*schedule(*answer[1:]), bytes(len(file)) + extra),
+             (("ok", len(file)), file + extra), "gap %d again" % gap)
+        for short in (len(file) - 1, len(file) - 6):
+            same(ref.write_file(*schedule(*answer[1:]), bytes(short)),
+                 (("refused", 11, 0), bytes(short)), "bytes for gap %d" % gap)
 
 
 def group_file_turns(_rng):
-    """Every turn of records: t task, c chain, x bad chain, e end.
+    """Every turn of records, each told by a letter.
 
-    A bad chain names an unknown task.  An expression says which rows of
-    records may begin a file.
+    t task, c chain, x bad chain, g gap, b bad gap, e end.  A bad chain
+    names an unknown task, a bad gap has a value outside its rule.  An
+    expression says which rows of records may begin a file.
     """
-    begins = re.compile("t{0,32}|t{1,32}c{1,4}e?")
+    begins = re.compile("t{0,32}|t{1,32}c{1,4}g?e?")
+    bad_gaps = itertools.cycle([0, 1_001, 1_256, 65_535])
 
     def judge(row):
         records = []
@@ -1437,21 +1780,27 @@ def group_file_turns(_rng):
             records.append({"t": task_record(index + 1, 10, 1, 0),
                             "c": chain_record([1, 1]),
                             "x": chain_record([1, 99]),
+                            "g": gap_record(1 + 7 * index),
+                            "b": gap_record(next(bad_gaps)),
                             "e": END}[letter])
         expected = None
         for index, letter in enumerate(row):
             offset = sum(map(len, records[:index]))
-            if not begins.fullmatch(row[:index + 1].replace("x", "c")):
+            known = row[:index + 1].replace("x", "c").replace("b", "g")
+            if not begins.fullmatch(known):
                 expected = ("refused", 4, offset)
             elif letter == "x":
                 expected = ("refused", 6, offset)
+            elif letter == "b":
+                expected = ("refused", 5, offset)
             if expected is not None:
                 break
         else:
             if row.endswith("e"):
                 expected = ("ok", [(n, 10, 1, 0) for n
                                    in range(1, row.count("t") + 1)],
-                            [[1, 1]] * row.count("c"))
+                            [[1, 1]] * row.count("c"),
+                            1 + 7 * row.index("g") if "g" in row else 0)
             else:
                 expected = ("refused", 1, sum(map(len, records)))
         same(ref.read_file(b"".join(records)), expected, row)
@@ -1464,6 +1813,13 @@ def group_file_turns(_rng):
     for tasks in range(30, 34):
         for chains in range(6):
             judge("t" * tasks + "c" * chains + "e")
+            for gap in ("g", "b", "gg", "gc", "gt", "gx", "bg", "gb"):
+                judge("t" * tasks + "c" * chains + gap + "e")
+    # With gaps, wherever they stand.
+    for length in range(5):
+        for letters in itertools.product("tcxgbe", repeat=length):
+            judge("".join(letters))
+            judge("tc" + "".join(letters))
 
 
 def group_file_writing(rng):
@@ -1472,16 +1828,28 @@ def group_file_writing(rng):
     chain = list(range(1, 13))
     bad_tasks = [(0, 0, 0, 0)] * 32
 
-    def written(task_count, tasks, chain_count, chains):
-        answer, after = ref.write_file(task_count, tasks, chain_count,
-                                       chains, lent)
+    def written_with(gap, task_count, tasks, chain_count, chains):
+        arguments = (task_count, tasks, chain_count, chains, gap)
+        answer, after = ref.write_file(*arguments, lent)
         if answer[0] == "refused":
             same(after, lent, "lent bytes stay")
-            same(ref.schedule_fault(task_count, tasks, chain_count, chains),
-                 answer, "the schedule's fault")
+            same(ref.schedule_fault(*arguments), answer,
+                 "the schedule's fault")
         else:
-            same(ref.schedule_fault(task_count, tasks, chain_count, chains),
-                 None, "no fault")
+            same(ref.schedule_fault(*arguments), None, "no fault")
+        return answer
+
+    def written(*counts_and_lists):
+        """Without a gap.  A gap comes after 8 and 5, before 6 and 11."""
+        answer = written_with(0, *counts_and_lists)
+        for gap in (1, 256, 1_000):
+            same(written_with(gap, *counts_and_lists),
+                 ("ok", answer[1] + 6) if answer[0] == "ok" else answer,
+                 "with gap %d" % gap)
+        for gap in (1_001, 65_536 + 5, 2 ** 32, 2 ** 64 - 1):
+            same(written_with(gap, *counts_and_lists),
+                 answer if answer[1] in (5, 8) and answer[0] == "refused"
+                 else ("refused", 5, 0), "with gap %d" % gap)
         return answer
 
     for count in (0, 33, 2 ** 32, 2 ** 64 - 1):
@@ -1555,7 +1923,7 @@ def group_file_writing(rng):
          "past the count, second chain")
 
 
-def listed_fault(task_count, tasks, chain_count, chains):
+def listed_fault(task_count, tasks, chain_count, chains, gap):
     """The fault of a schedule: all are listed, the least rank decides."""
     faults = []
     if task_count not in range(1, 33) or chain_count not in range(1, 5):
@@ -1572,21 +1940,24 @@ def listed_fault(task_count, tasks, chain_count, chains):
                     or D not in range(1, 4_000_001) \
                     or F not in range(0, 1_000_001):
                 faults.append((1, 0, index + 1, 5))
+        if gap not in range(1_001):
+            faults.append((2, 0, 0, 5))
         for which in range(chain_count):
             for index in range(chains[which][0]):
                 if chains[which][1][index] not in [
                         tasks[at][0] for at in range(task_count)]:
-                    faults.append((2, which, index + 1, 6))
+                    faults.append((3, which, index + 1, 6))
     if not faults:
         return None
     _rank, _chain, place, number = min(faults)
     return ("refused", number, place)
 
 
-def faulty_schedule(rng):
+def faulty_schedule(rng, choose):
     """A schedule with some faults, or none, in the counted entries."""
     tasks, chains = random_schedule(rng)
-    task_count, tasks, chain_count, chains = schedule(tasks, chains)
+    task_count, tasks, chain_count, chains, gap = schedule(tasks, chains,
+                                                           choose(rng))
     for _ in range(rng.choice([0, 1, 2, 3])):
         change = rng.randrange(8)
         which = rng.randrange(4)
@@ -1608,16 +1979,25 @@ def faulty_schedule(rng):
             numbers = list(numbers)
             numbers[rng.randrange(12)] = rng.choice([0, 65_535, 1])
             chains[which] = (places, numbers)
-    return task_count, tasks, chain_count, chains
+    return task_count, tasks, chain_count, chains, gap
 
 
-def group_schedule_faults(rng):
+def any_gap(rng):
+    """A gap of a schedule, sometimes one above the limit."""
+    if rng.random() < 0.7:
+        return file_gap(rng)
+    return rng.choice([1_001, 1_002, 65_536, 2 ** 32 + 1, 2 ** 64 - 1])
+
+
+def schedule_faults(rng, choose):
     """The same fault for writing and for every analysis."""
     met = {}
     for _ in range(3_000):
-        arguments = faulty_schedule(rng)
+        arguments = faulty_schedule(rng, choose)
         expected = listed_fault(*arguments)
         number = expected[1] if expected else None
+        if expected == ("refused", 5, 0):
+            number = "gap"
         met[number] = met.get(number, 0) + 1
         same(ref.schedule_fault(*arguments), expected, "fault")
         if expected is None:
@@ -1635,8 +2015,18 @@ def group_schedule_faults(rng):
         same(ref.windows_of(*arguments, n, 0, 0), expected, "windows")
         same(ref.bookings_of(*arguments, n, m, UPPER + 1), expected,
              "bookings")
-    same(set(met), {None, 5, 6, 8}, "every fault was met")
     same(min(met.values()) > 100, True, "each fault often")
+    return set(met)
+
+
+def group_schedule_faults(rng):
+    same(schedule_faults(rng, no_gap), {None, 5, 6, 8},
+         "every fault was met")
+
+
+def group_schedule_faults_with_gaps(rng):
+    same(schedule_faults(rng, any_gap), {None, 5, "gap", 6, 8},
+         "every fault was met")
 
 
 # ---------------------------------------------------------------------------
@@ -1661,12 +2051,13 @@ def schedule_of_chains(rng, chains):
                     for task in chain] for chain in chains]
 
 
-def group_schedule_analyses(rng):
+def schedule_analyses(rng, choose):
     for turn in range(140):
         chains = [small_chain(rng, 40) for _ in range(1 + turn % 4)]
-        arguments = schedule(*schedule_of_chains(rng, chains))
+        gap = choose(rng, *chains)
+        arguments = schedule(*schedule_of_chains(rng, chains), gap)
         for n in list(range(len(chains) + 2)) + [5, 2 ** 64 - 1]:
-            what = "chain %d of %r" % (n, chains)
+            what = "chain %d of %r gap %d" % (n, chains, gap)
             k = rng.choice([0, 1, 2, 5, 101])
             B = rng.randint(0, 60)
             t = rng.choice([0, rng.randint(0, 200), UPPER, UPPER + 1])
@@ -1686,60 +2077,69 @@ def group_schedule_analyses(rng):
             tasks = chains[n - 1]
             same(ref.chain_of_schedule(*arguments, n), ("ok", tasks), what)
             # Literal walks, without the schedule.
-            way = literal_warm_up(tasks)
+            way = literal_warm_up(tasks, gap)
             x0 = tasks[0][2] + way[0] * tasks[0][0]
             z0 = tasks[-1][2] + way[-1] * tasks[-1][0] + tasks[-1][1]
             H = literal_hyperperiod(tasks)
             same(ref.warm_up_of(*arguments, n), ("ok", way, x0, H), what)
-            delays = [literal_delay(tasks, x0 + offset)
+            delays = [literal_delay(tasks, gap, x0 + offset)
                       for offset in range(H)]
             same([ref.delay_of(*arguments, n, x0 + offset)
                   for offset in range(H)], [("ok", one) for one in delays],
                  what)
             same([ref.age_of(*arguments, n, z0 + offset)
                   for offset in range(H)],
-                 [("ok", literal_age(tasks, z0 + offset))
+                 [("ok", literal_age(tasks, gap, z0 + offset))
                   for offset in range(H)], what)
             # Table and walk agree chain by chain.
             p = rng.randint(1, len(tasks))
             found = anchors_from_delays(delays, x0)
             g = len(found)
-            made, starts, latencies = ref.make_of(*arguments, n, p,
-                                                  [5] * (g + 1), [6] * (g + 1))
+            made, starts, latencies = ref.make_of(
+                *arguments, n, p, [5] * (g + 1), [6] * (g + 1))
             same(made, ("ok", g, x0, H, H // tasks[p - 1][0]), what)
             same(list(zip(starts, latencies)), found + [(5, 6)], what)
             same([ref.read_table(starts, latencies, g, H, x0 + offset)
                   for offset in range(2 * H)],
                  [("ok", one) for one in delays * 2], what)
             # Every call's own refusals follow.
-            same(ref.delay_of(*arguments, n, t), ref.delay(tasks, t), what)
-            same(ref.age_of(*arguments, n, t), ref.age(tasks, t), what)
+            same(ref.delay_of(*arguments, n, t), ref.delay(tasks, gap, t),
+                 what)
+            same(ref.age_of(*arguments, n, t), ref.age(tasks, gap, t), what)
             for place in (0, p, len(tasks) + 1):
                 for lists in (([1], [2, 3]), ([1], [2]), ([], [])):
                     same(ref.make_of(*arguments, n, place, *lists),
-                         ref.make(tasks, place, *lists), what)
+                         ref.make(tasks, gap, place, *lists), what)
             same(ref.windows_of(*arguments, n, B, k),
-                 ref.windows(tasks, B, k), what)
+                 ref.windows(tasks, gap, B, k), what)
+
+
+def group_schedule_analyses(rng):
+    schedule_analyses(rng, no_gap)
     # A chain of 7 beside a good one: each number has its own answer.
     tasks = [(1, 999_983, 1, 0), (2, 999_979, 1, 0), (9, 10, 3, 5)]
     for turn in itertools.permutations([[1, 2], [9], [9, 9]]):
-        arguments = schedule(tasks, list(turn))
+        arguments = schedule(tasks, list(turn), 0)
         for n, numbers in enumerate(turn, start=1):
             same(ref.warm_up_of(*arguments, n)[:2],
                  ("refused", 7) if numbers == [1, 2]
                  else ("ok", list(range(len(numbers)))), "7 beside")
         same(ref.warm_up_of(*arguments, 4), ("refused", 16, 0),
              "16 before 7")
+        # The gap is the schedule's fault, so it comes before 16 and 7.
+        arguments = schedule(tasks, list(turn), 1_001)
+        for n in range(6):
+            same(ref.warm_up_of(*arguments, n), ("refused", 5, 0),
+                 "the gap before 16 and 7")
+
+
+def group_schedule_analyses_with_gaps(rng):
+    schedule_analyses(rng, small_gap)
 
 
 # ---------------------------------------------------------------------------
 # Two chains
 # ---------------------------------------------------------------------------
-
-def literal_booking(tasks, t):
-    """The last write of the forward walk of a press at t."""
-    return literal_forward_end(tasks, literal_strictly_after(tasks[0], t))
-
 
 def small_pair(rng, largest_common, most_places=4):
     """Two random chains with a small common hyperperiod."""
@@ -1753,14 +2153,15 @@ def small_pair(rng, largest_common, most_places=4):
             return first, second
 
 
-def differences_of_tables(first, second, later_warm_up, common):
+def differences_of_tables(first, first_gap, second, second_gap,
+                          later_warm_up, common):
     """The differences at every tick, from tables and without a walk."""
     rows = []
-    for tasks in (first, second):
+    for tasks, gap in ((first, first_gap), (second, second_gap)):
         H = math.lcm(*[T for T, _D, _F in tasks])
         p = ref.longest_period_place(tasks)
         slots = [0] * H
-        _answer, starts, latencies = ref.make(tasks, p, slots, slots)
+        _answer, starts, latencies = ref.make(tasks, gap, p, slots, slots)
         delays = ref.delays_of_hyperperiod(starts, latencies, _answer[1], H)
         rows.append((starts[0], delays, H))
     (a0, a, Ha), (b0, b, Hb) = rows
@@ -1779,40 +2180,58 @@ def group_pairs_by_hand(_rng):
                               (8, 24, 20), (12, 30, 25), (15, 30, 30),
                               (24, 42, 35), (55, 70, 66), (60, 78, 75)):
         expected = ("ok", later, earlier, later - earlier, 7)
-        same(ref.bookings(A, C, t), expected, "A and C at %d" % t)
-        same(ref.bookings(C, A, t), expected, "C and A at %d" % t)
+        same(ref.bookings(A, 0, C, 0, t), expected, "A and C at %d" % t)
+        same(ref.bookings(C, 0, A, 0, t), expected, "C and A at %d" % t)
     # Before D's warm-up D books 96, far from B.  This is not counted.
-    same(ref.bookings(B, D, 90), ("ok", 106, 98, 8, 8), "B and D at 90")
-    same(ref.bookings(B, D, 95), ("ok", 108, 106, 2, 8), "B and D at 95")
+    same(ref.bookings(B, 0, D, 0, 90), ("ok", 106, 98, 8, 8), "B and D at 90")
+    same(ref.bookings(B, 0, D, 0, 95), ("ok", 108, 106, 2, 8), "B and D at 95")
     for t in (0, 5, 89):
-        same(ref.bookings(B, D, t), ("refused", 12, 0), "B and D too early")
-        same(ref.bookings(D, B, t), ("refused", 12, 0), "D and B too early")
+        same(ref.bookings(B, 0, D, 0, t), ("refused", 12, 0),
+             "B and D too early")
+        same(ref.bookings(D, 0, B, 0, t), ("refused", 12, 0),
+             "D and B too early")
     for tasks in (A, B, C, D):
-        x0 = ref.warm_up(tasks)[2]
-        end = x0 + ref.delay(tasks, x0)[1]
-        same(ref.bookings(tasks, tasks, x0), ("ok", end, end, 0, 0),
+        x0 = ref.warm_up(tasks, 0)[2]
+        end = x0 + ref.delay(tasks, 0, x0)[1]
+        same(ref.bookings(tasks, 0, tasks, 0, x0), ("ok", end, end, 0, 0),
              "a chain with itself")
     # The upper tick leaves 40 by 60.  At 40 A books 54 and C books 55.
     same(UPPER % 60, 40, "remainder")
-    same(ref.bookings(A, C, 40), ("ok", 55, 54, 1, 7), "A and C at 40")
-    same(ref.bookings(A, C, UPPER), ("ok", UPPER + 15, UPPER + 14, 1, 7),
-         "upper tick")
+    same(ref.bookings(A, 0, C, 0, 40), ("ok", 55, 54, 1, 7), "A and C at 40")
+    same(ref.bookings(A, 0, C, 0, UPPER),
+         ("ok", UPPER + 15, UPPER + 14, 1, 7), "upper tick")
+    # With gap 1 A books 12 k + 18 from 12 k and 12 k + 24 from 12 k + 4, and
+    # C books 5 k + 20 from 5 k.  They lie furthest apart at 35.
+    for t, a, c in ((0, 18, 20), (3, 18, 20), (4, 24, 20), (5, 24, 25),
+                    (12, 30, 30), (15, 30, 35), (16, 36, 35), (28, 48, 45),
+                    (35, 48, 55), (40, 60, 60), (52, 72, 70), (60, 78, 80)):
+        expected = ("ok", max(a, c), min(a, c), abs(a - c), 7)
+        same(ref.bookings(A, 1, C, 1, t), expected,
+             "A and C with gap 1 at %d" % t)
+        same(ref.bookings(C, 1, A, 1, t), expected,
+             "C and A with gap 1 at %d" % t)
+    # One chain with a gap and one without.
+    same(ref.bookings(C, 1, C, 0, 0), ("ok", 20, 15, 5, 5),
+         "C with gap 1 and without")
+    same(ref.bookings(B, 1_000, B, 0, 5), ("ok", 18, 18, 0, 0),
+         "B has no link")
 
 
-def group_pairs_every_tick(rng):
+def pairs_every_tick(rng, choose):
     equal_warm_ups = set()
     for turn in range(220):
         first, second = small_pair(rng, 30 if turn % 8 else 120,
                                    4 if turn % 9 else 12)
-        what = "%r %r" % (first, second)
-        warm = [tasks[0][2] + literal_warm_up(tasks)[0] * tasks[0][0]
+        gap = choose(rng, first, second)
+        what = "%r %r gap %d" % (first, second, gap)
+        warm = [tasks[0][2] + literal_warm_up(tasks, gap)[0] * tasks[0][0]
                 for tasks in (first, second)]
         x = max(warm)
         equal_warm_ups.add((warm[0] > warm[1]) - (warm[0] < warm[1]))
         common = literal_hyperperiod(first + second)
         # Every tick, walked literally.
-        one = [literal_booking(first, x + r) for r in range(2 * common)]
-        two = [literal_booking(second, x + r) for r in range(2 * common)]
+        one = [literal_booking(first, gap, x + r) for r in range(2 * common)]
+        two = [literal_booking(second, gap, x + r) for r in range(2 * common)]
         differences = [abs(a - b) for a, b in zip(one, two)]
         largest = max(differences[:common])
         # The next hyperperiod has the same differences.
@@ -1820,18 +2239,19 @@ def group_pairs_every_tick(rng):
         for r in range(2 * common):
             expected = ("ok", max(one[r], two[r]), min(one[r], two[r]),
                         differences[r], largest)
-            same(ref.bookings(first, second, x + r), expected, what)
-        same(ref.bookings(second, first, x), ref.bookings(first, second, x),
-             "turned round " + what)
+            same(ref.bookings(first, gap, second, gap, x + r), expected, what)
+        same(ref.bookings(second, gap, first, gap, x),
+             ref.bookings(first, gap, second, gap, x), "turned round " + what)
         if x > 0:
-            same(ref.bookings(first, second, x - 1), ("refused", 12, 0),
-                 "too early " + what)
-        same(ref.bookings(first, second, UPPER + 1), ("refused", 13, 0),
-             "too late " + what)
+            same(ref.bookings(first, gap, second, gap, x - 1),
+                 ("refused", 12, 0), "too early " + what)
+        same(ref.bookings(first, gap, second, gap, UPPER + 1),
+             ("refused", 13, 0), "too late " + what)
         # The segments, the tables, and the reads of the first places.
-        same(ref.greatest_difference_by_segments(first, second, x, common),
+        same(ref.greatest_difference_by_segments(first, gap, second, gap, x,
+                                                 common),
              largest, "segments " + what)
-        same(differences_of_tables(first, second, x, common),
+        same(differences_of_tables(first, gap, second, gap, x, common),
              differences[:common], "tables " + what)
         changes = {x} | {t for T, _D, F in (first[0], second[0])
                          for t in range(F, x + common, T) if t >= x}
@@ -1843,19 +2263,44 @@ def group_pairs_every_tick(rng):
                 after = next((q for q in range(r, len(row))
                               if row[q] != row[r]), None)
                 if after is not None:
-                    same(ref.next_change(tasks, x + r), x + after,
+                    same(ref.next_change(tasks, gap, x + r), x + after,
                          "next change " + what)
         # Table and walk agree at any tick.
         t = rng.randint(x, UPPER)
-        answer = ref.bookings(first, second, t)
+        answer = ref.bookings(first, gap, second, gap, t)
         same(answer[3], differences[(t - x) % common], "far tick " + what)
         same({answer[1], answer[2]},
-             {t + ref.delay(first, t)[1], t + ref.delay(second, t)[1]},
-             "delays " + what)
+             {t + ref.delay(first, gap, t)[1],
+              t + ref.delay(second, gap, t)[1]}, "delays " + what)
     same(equal_warm_ups, {-1, 0, 1}, "either warm-up is the later one")
 
 
-def group_pairs_large(rng):
+def group_pairs_every_tick(rng):
+    pairs_every_tick(rng, no_gap)
+
+
+def group_pairs_every_tick_with_gaps(rng):
+    pairs_every_tick(rng, small_gap)
+    # Chains with gaps of their own.
+    for _ in range(60):
+        first, second = small_pair(rng, 30)
+        one, two = small_gap(rng, first), small_gap(rng, second)
+        what = "%r gap %d %r gap %d" % (first, one, second, two)
+        x = max(tasks[0][2] + literal_warm_up(tasks, gap)[0] * tasks[0][0]
+                for tasks, gap in ((first, one), (second, two)))
+        common = literal_hyperperiod(first + second)
+        rows = [(literal_booking(first, one, x + r),
+                 literal_booking(second, two, x + r)) for r in range(common)]
+        largest = max(abs(a - b) for a, b in rows)
+        for r, (a, b) in enumerate(rows):
+            same(ref.bookings(first, one, second, two, x + r),
+                 ("ok", max(a, b), min(a, b), abs(a - b), largest), what)
+        same(ref.greatest_difference_by_segments(first, one, second, two, x,
+                                                 common),
+             largest, "segments " + what)
+
+
+def large_pairs(rng, choose):
     # On both sides of the limit of the enumeration, every tick by tables.
     for turn in range(24):
         while True:
@@ -1870,15 +2315,20 @@ def group_pairs_large(rng):
             if (8_000 <= common <= 20_000) if turn < 4 \
                     else (20_000 < common <= 60_000):
                 break
-        x = max(ref.warm_up(first)[2], ref.warm_up(second)[2])
-        largest = max(differences_of_tables(first, second, x, common))
-        same(ref.bookings(first, second, x)[4], largest,
-             "greatest of %r %r" % (first, second))
-        same(ref.greatest_difference_by_segments(first, second, x, common),
-             largest, "segments of %r %r" % (first, second))
+        gap = choose(rng, first, second)
+        x = max(ref.warm_up(first, gap)[2], ref.warm_up(second, gap)[2])
+        what = "%r %r gap %d" % (first, second, gap)
+        largest = max(differences_of_tables(first, gap, second, gap, x,
+                                            common))
+        same(ref.bookings(first, gap, second, gap, x)[4], largest,
+             "greatest of " + what)
+        same(ref.greatest_difference_by_segments(first, gap, second, gap, x,
+                                                 common),
+             largest, "segments of " + what)
         if turn == 4:
-            same(ref.greatest_difference_by_ticks(first, second, x, common),
-                 largest, "ticks of %r %r" % (first, second))
+            same(ref.greatest_difference_by_ticks(first, gap, second, gap, x,
+                                                  common),
+                 largest, "ticks of " + what)
     # Full-range values: every start of every anchor of both chains.
     done = 0
     while done < 60:
@@ -1889,42 +2339,60 @@ def group_pairs_large(rng):
                 for tasks in (first, second)):
             continue
         done += 1
-        x = max(ref.warm_up(first)[2], ref.warm_up(second)[2])
+        gap = choose(rng, first, second)
+        x = max(ref.warm_up(first, gap)[2], ref.warm_up(second, gap)[2])
         ticks = {x}
         for tasks in (first, second):
             p = ref.longest_period_place(tasks)
             H = math.lcm(*[T for T, _D, _F in tasks])
-            for start, _latency in ref.anchors(tasks, p):
+            for start, _latency in ref.anchors(tasks, gap, p):
                 t = start + H * ((x - start) // H)
                 ticks |= {one for one in range(t, x + common, H) if one >= x}
-        largest = max(abs(ref.walked_delay(first, t)
-                          - ref.walked_delay(second, t)) for t in ticks)
-        what = "%r %r" % (first, second)
-        same(ref.greatest_difference_by_segments(first, second, x, common),
+        largest = max(abs(ref.walked_delay(first, gap, t)
+                          - ref.walked_delay(second, gap, t)) for t in ticks)
+        what = "%r %r gap %d" % (first, second, gap)
+        same(ref.greatest_difference_by_segments(first, gap, second, gap, x,
+                                                 common),
              largest, "anchors of " + what)
         t = rng.choice([x, UPPER, rng.randint(x, UPPER)])
-        ends = [t + ref.delay(tasks, t)[1] for tasks in (first, second)]
-        same(ref.bookings(first, second, t),
+        ends = [t + ref.delay(tasks, gap, t)[1] for tasks in (first, second)]
+        same(ref.bookings(first, gap, second, gap, t),
              ("ok", max(ends), min(ends), max(ends) - min(ends), largest),
              what)
         for _ in range(20):
             t = rng.randint(x, x + 2 * common)
-            same(ref.bookings(first, second, t)[3] <= largest, True, what)
+            same(ref.bookings(first, gap, second, gap, t)[3] <= largest,
+                 True, what)
+
+
+def group_pairs_large(rng):
+    large_pairs(rng, no_gap)
     # A period of one tick beside the longest: few segments.
     fast = [(1, 1, 0)]
     slow = [(1_000_000, 1, 0), (768, 1, 0), (5 ** 7, 1, 0)]
-    x = ref.warm_up(slow)[2]
-    answer = ref.bookings(fast, slow, x)
-    same(answer[:2], ("ok", x + ref.delay(slow, x)[1]), "at the limit")
-    p = ref.longest_period_place(slow)
-    # A press at t books t + 2 by the fast chain.
-    same(answer[4], max(latency for _start, latency
-                        in ref.anchors(slow, p)) - 2, "at the limit")
+    for gap in (0, 1, 500, 1_000):
+        x = ref.warm_up(slow, gap)[2]
+        answer = ref.bookings(fast, gap, slow, gap, x)
+        same(answer[:2], ("ok", x + ref.delay(slow, gap, x)[1]),
+             "at the limit")
+        p = ref.longest_period_place(slow)
+        # A press at t books t + 2 by the fast chain, which has no link.
+        same(answer[4], max(latency for _start, latency
+                            in ref.anchors(slow, gap, p)) - 2, "at the limit")
     # The largest values: 49,000,000 by hand, beside one tick.
     worst = [(1_000_000, 4_000_000, 1_000_000)] * 12
-    same(ref.bookings(worst, fast, 1_000_000),
+    same(ref.bookings(worst, 0, fast, 0, 1_000_000),
          ("ok", 50_000_000, 1_000_002, 48_999_998, 48_999_998),
          "largest values")
+    # With a gap each of the eleven links costs a period more.
+    for gap in (1, 1_000):
+        same(ref.bookings(worst, gap, fast, gap, 1_000_000),
+             ("ok", 61_000_000, 1_000_002, 59_999_998, 59_999_998),
+             "largest values with gap %d" % gap)
+
+
+def group_pairs_large_with_gaps(rng):
+    large_pairs(rng, wide_gap)
 
 
 def group_pair_refusals(rng):
@@ -1935,11 +2403,15 @@ def group_pair_refusals(rng):
     many = [(0, 0, 0)] * 13
     bad = [(10, 1, 0), (10, 0, 0), (0, 1, 0)]
     worse = [(10, 1, 1_000_001)]
-    own = [(good, None), (late, None), (huge, ("refused", 7, 0)),
-           (none, ("refused", 8, 0)), (many, ("refused", 8, 0)),
-           (bad, ("refused", 5, 2)), (worse, ("refused", 5, 1))]
+    own = [(good, 0, None), (late, 0, None), (huge, 0, ("refused", 7, 0)),
+           (none, 0, ("refused", 8, 0)), (many, 0, ("refused", 8, 0)),
+           (bad, 0, ("refused", 5, 2)), (worse, 0, ("refused", 5, 1)),
+           (good, 1_001, ("refused", 5, 0)),
+           (huge, 2 ** 64 - 1, ("refused", 5, 0)),
+           (bad, 1_001, ("refused", 5, 2)), (many, 1_001, ("refused", 8, 0))]
     # The first chain's own checks, then the second's own.
-    for (first, refusal), (second, other) in itertools.product(own, own):
+    for (first, gap, refusal), (second, other_gap, other) \
+            in itertools.product(own, own):
         for t in (0, 90, UPPER + 1):
             if refusal is not None:
                 expected = refusal
@@ -1951,7 +2423,7 @@ def group_pair_refusals(rng):
                 expected = ("refused", 13, 0)
             else:
                 expected = None
-            found = ref.bookings(first, second, t)
+            found = ref.bookings(first, gap, second, other_gap, t)
             same(found if found[0] == "refused" else None, expected,
                  "own checks %r %r %d" % (first, second, t))
     # 7 for the common hyperperiod, before 12 and 13.
@@ -1961,21 +2433,22 @@ def group_pair_refusals(rng):
     for first, second in pairs:
         for t in (0, 1_000_000, UPPER, UPPER + 1):
             for one, two in ((first, second), (second, first)):
-                same(ref.bookings(one, two, t), ("refused", 7, 0),
+                same(ref.bookings(one, 0, two, 0, t), ("refused", 7, 0),
                      "common hyperperiod")
     for first, second in (([(1_000_000, 1, 0)], [(768, 1, 0)]),
                           ([(768, 1, 0)], [(1_000_000, 1, 0)])):
         same(math.lcm(first[0][0], second[0][0], 5 ** 7) <= 60_000_000,
              True, "common hyperperiod within")
-        same(ref.bookings(first, second, 0)[0], "ok", "within")
-    same(ref.bookings([(1_000_000, 1, 0), (768, 1, 0)], [(5 ** 7, 1, 0)],
-                      2_000_000)[0], "ok", "60,000,000 passes")
+        same(ref.bookings(first, 0, second, 0, 0)[0], "ok", "within")
+    same(ref.bookings([(1_000_000, 1, 0), (768, 1, 0)], 0,
+                      [(5 ** 7, 1, 0)], 0, 2_000_000)[0], "ok",
+         "60,000,000 passes")
     # Ticks: either chain may be the late one.
     for first, second in ((good, late), (late, good), (late, late)):
-        same(ref.bookings(first, second, 89), ("refused", 12, 0), "89")
-        same(ref.bookings(first, second, 90)[0], "ok", "90")
-        same(ref.bookings(first, second, UPPER)[0], "ok", "upper tick")
-        same(ref.bookings(first, second, UPPER + 1), ("refused", 13, 0),
+        same(ref.bookings(first, 0, second, 0, 89), ("refused", 12, 0), "89")
+        same(ref.bookings(first, 0, second, 0, 90)[0], "ok", "90")
+        same(ref.bookings(first, 0, second, 0, UPPER)[0], "ok", "upper tick")
+        same(ref.bookings(first, 0, second, 0, UPPER + 1), ("refused", 13, 0),
              "above the upper tick")
     # From a schedule: 8, 5, 6, 16, own, common, 12, 13, one after another.
     # Task 3 is late; tasks 4 and 5 together are 7.
@@ -1983,7 +2456,7 @@ def group_pair_refusals(rng):
              (5, 999_979, 1, 0)]
     numbers = (0, 1, 2, 3, 4, 5, 2 ** 64 - 1)
     for chains in ([[1], [2, 3], [4, 5], [4]], [[1], [2, 3], [4], [5]]):
-        arguments = schedule(tasks, chains)
+        arguments = schedule(tasks, chains, 0)
         for first, second in itertools.product(numbers, numbers):
             for t in (0, 89, 90, UPPER, UPPER + 1):
                 if first not in range(1, 5) or second not in range(1, 5):
@@ -2001,14 +2474,22 @@ def group_pair_refusals(rng):
                 found = ref.bookings_of(*arguments, first, second, t)
                 same(found if found[0] == "refused" else None, expected,
                      "numbers %d and %d at %d" % (first, second, t))
-    arguments = schedule(tasks, [[1], [2, 3], [4, 5], [4]])
+    arguments = schedule(tasks, [[1], [2, 3], [4, 5], [4]], 0)
     faults = [(("refused", 8, 0), (0, *arguments[1:])),
-              (("refused", 8, 0), (*arguments[:2], 5, arguments[3])),
+              (("refused", 8, 0), (*arguments[:2], 5, *arguments[3:])),
               (("refused", 8, 0), (*arguments[:3],
-                                   arguments[3][:3] + [(0, [1] * 12)])),
+                                   arguments[3][:3] + [(0, [1] * 12)], 0)),
+              (("refused", 8, 0), (0, *arguments[1:4], 1_001)),
               (("refused", 5, 4), schedule(tasks[:3] + [(3, 0, 1, 0)],
-                                           [[9]])),
-              (("refused", 6, 2), schedule(tasks, [[1], [2, 9], [9]]))]
+                                           [[9]], 0)),
+              (("refused", 5, 4), schedule(tasks[:3] + [(3, 0, 1, 0)],
+                                           [[9]], 1_001)),
+              (("refused", 5, 0), (*arguments[:4], 1_001)),
+              (("refused", 5, 0), schedule(tasks, [[1], [2, 9], [9]],
+                                           2 ** 64 - 1)),
+              (("refused", 6, 2), schedule(tasks, [[1], [2, 9], [9]], 0)),
+              (("refused", 6, 2), schedule(tasks, [[1], [2, 9], [9]],
+                                           1_000))]
     for expected, faulty in faults:
         for first, second in ((1, 2), (0, 9), (1, 1), (9, 1)):
             for t in (0, UPPER + 1):
@@ -2021,15 +2502,18 @@ def group_pair_refusals(rng):
             if literal_hyperperiod([task for chain in chosen
                                     for task in chain]) <= 120:
                 break
-        arguments = schedule(*schedule_of_chains(rng, chosen))
+        gap = no_gap(rng) if turn % 2 else small_gap(rng, *chosen)
+        arguments = schedule(*schedule_of_chains(rng, chosen), gap)
         for first in range(1, len(chosen) + 1):
             for second in range(1, len(chosen) + 1):
                 one, two = chosen[first - 1], chosen[second - 1]
                 t = rng.randint(0, 200)
                 answer = ref.bookings_of(*arguments, first, second, t)
-                same(answer, ref.bookings(one, two, t), "numbers and lists")
+                same(answer, ref.bookings(one, gap, two, gap, t),
+                     "numbers and lists")
                 if answer[0] == "ok":
-                    ends = [literal_booking(one, t), literal_booking(two, t)]
+                    ends = [literal_booking(one, gap, t),
+                            literal_booking(two, gap, t)]
                     same(answer[1:4], (max(ends), min(ends),
                                        abs(ends[0] - ends[1])), "literal")
                 if first == second and answer[0] == "ok":
@@ -2040,12 +2524,12 @@ def group_pair_refusals(rng):
 # Report
 # ---------------------------------------------------------------------------
 
-def literal_report(tasks):
+def literal_report(tasks, gap):
     """The lines of one chain, built from literal walks."""
-    way = literal_warm_up(tasks)
+    way = literal_warm_up(tasks, gap)
     x0 = tasks[0][2] + way[0] * tasks[0][0]
     H = literal_hyperperiod(tasks)
-    delays = [literal_delay(tasks, x0 + offset) for offset in range(H)]
+    delays = [literal_delay(tasks, gap, x0 + offset) for offset in range(H)]
     found = anchors_from_delays(delays, x0)
     text = "warm %d\nhyper %d\nanchors %d\n" % (x0, H, len(found))
     text += "".join("a %d %d\n" % anchor for anchor in found)
@@ -2055,17 +2539,73 @@ def literal_report(tasks):
     return text
 
 
-def group_report(rng):
+def reports(rng, choose):
     for turn in range(160):
         chains = [small_chain(rng, 120 if turn % 4 == 0 else 40)
                   for _ in range(1 + turn % 4)]
-        tasks, numbers = schedule_of_chains(rng, chains)
-        file = b"".join(task_record(*task) for task in tasks)
-        file += b"".join(map(chain_record, numbers)) + END
+        gap = choose(rng, *chains)
+        file = file_of(*schedule_of_chains(rng, chains), gap)
         text = ""
         for n, chain in enumerate(chains, start=1):
-            text += "chain %d\n%s" % (n, literal_report(chain))
-        same(ref.report(file), text.encode(), "report %r" % (chains,))
+            text += "chain %d\n%s" % (n, literal_report(chain, gap))
+        same(ref.report(file), text.encode(),
+             "report %r gap %d" % (chains, gap))
+
+
+def group_report_with_gaps(rng):
+    reports(rng, small_gap)
+    # Chain A with gap 1, and C, by hand.
+    file = FILE_A[:44] + gap_record(1) + END
+    same(ref.report(file), b"""chain 1
+warm 0
+hyper 12
+anchors 2
+a 0 18
+a 4 20
+max 20
+low 12
+mean 384 24
+walked 2
+""", "report of A with gap 1")
+    file = task_record(7, 5, 5, 0) + chain_record([7, 7]) \
+        + chain_record([7]) + gap_record(1) + END
+    same(ref.report(file), b"""chain 1
+warm 0
+hyper 5
+anchors 1
+a 0 20
+max 20
+low 15
+mean 175 10
+walked 1
+chain 2
+warm 0
+hyper 5
+anchors 1
+a 0 10
+max 10
+low 5
+mean 75 10
+walked 1
+""", "report of C with gap 1")
+    # A refused gap record has its line alone; a gap does not change what a
+    # chain is refused for.
+    same(ref.report(FILE_A[:44] + gap_record(0) + END), b"refused 5 44\n",
+         "gap 0 in a file")
+    same(ref.report(FILE_A[:44] + gap_record(1_001) + END),
+         b"refused 5 44\n", "gap 1,001 in a file")
+    same(ref.report(FILE_A[:44] + gap_record(1) * 2 + END),
+         b"refused 4 50\n", "gap twice")
+    file = task_record(1, 999_983, 1, 0) + task_record(2, 999_979, 1, 0) \
+        + chain_record([1, 2]) + gap_record(1_000) + END
+    same(ref.report(file), b"chain 1\nrefused 7 0\n", "report of 7")
+    file = task_record(1, 1_025, 1, 0) + task_record(2, 1_026, 1, 0) \
+        + chain_record([1, 2]) + gap_record(1_000) + END
+    same(ref.report(file), b"chain 1\nrefused 11 0\n", "1,025 anchors")
+
+
+def group_report(rng):
+    reports(rng, no_gap)
     # Chains that are read but refused by making.
     file = task_record(1, 999_983, 1, 0) + task_record(2, 999_979, 1, 0) \
         + chain_record([1, 2]) + END
@@ -2087,8 +2627,8 @@ def group_report(rng):
     # Refused chains first, in the middle, last, and in every turn.
     tasks = [(1, 10, 3, 5), (2, 999_983, 1, 0), (3, 999_979, 1, 0),
              (4, 1_025, 1, 0), (5, 1_026, 1, 0)]
-    kinds = [([1], literal_report([(10, 3, 5)])),
-             ([1, 1], literal_report([(10, 3, 5)] * 2)),
+    kinds = [([1], literal_report([(10, 3, 5)], 0)),
+             ([1, 1], literal_report([(10, 3, 5)] * 2, 0)),
              ([2, 3], "refused 7 0\n"), ([4, 5], "refused 11 0\n")]
     rows = [row for count in (1, 2) for row
             in itertools.product(kinds, repeat=count)]
@@ -2128,35 +2668,38 @@ def group_report(rng):
 # Full range
 # ---------------------------------------------------------------------------
 
-def group_full_range(rng):
+def full_range(rng, choose):
     """Delays and ages over the full range.
 
     The forward end of a press at t is the first write whose backward
     start lies after t.  So delay and age decide each other.
     """
-    for _ in range(2_500):
+    for turn in range(2_500):
         tasks = large_chain(rng)
-        _ok, way, x0, H = ref.warm_up(tasks)
+        gap = choose(rng, tasks)
+        if gap and turn % 2:
+            tasks = tightened(rng, tasks, gap)
+        _ok, way, x0, H = ref.warm_up(tasks, gap)
         T, D, F = tasks[-1]
         z0 = F + way[-1] * T + D
         t = rng.choice([x0, UPPER, rng.randint(x0, UPPER),
                         rng.randint(x0, x0 + 2 * H)])
-        one = ref.delay(tasks, t)[1]
+        one = ref.delay(tasks, gap, t)[1]
         end = t + one
         if end <= UPPER:
-            same(end - ref.age(tasks, end)[1] > t, True, "age at the end")
-            same((end - 1) - ref.age(tasks, end - 1)[1] <= t, True,
+            same(end - ref.age(tasks, gap, end)[1] > t, True, "age at the end")
+            same((end - 1) - ref.age(tasks, gap, end - 1)[1] <= t, True,
                  "age before the end")
         if t + H <= UPPER:
-            same(ref.delay(tasks, t + H), ("ok", one), "delay repeats")
+            same(ref.delay(tasks, gap, t + H), ("ok", one), "delay repeats")
         z = rng.choice([z0, UPPER, rng.randint(z0, UPPER)])
-        start = z - ref.age(tasks, z)[1]
-        same(start + ref.delay(tasks, start)[1] > z, True,
+        start = z - ref.age(tasks, gap, z)[1]
+        same(start + ref.delay(tasks, gap, start)[1] > z, True,
              "delay at the start")
         if start > x0:
-            same(start - 1 + ref.delay(tasks, start - 1)[1] <= z, True,
+            same(start - 1 + ref.delay(tasks, gap, start - 1)[1] <= z, True,
                  "delay before the start")
-        same(ref.delay(tasks, x0 - 1) if x0 else ("refused", 12, 0),
+        same(ref.delay(tasks, gap, x0 - 1) if x0 else ("refused", 12, 0),
              ("refused", 12, 0), "too early")
     # Tables with few partitions and large values.
     for _ in range(60):
@@ -2167,9 +2710,10 @@ def group_full_range(rng):
                     if H // tasks[p - 1][0] <= 200]
             if cuts:
                 break
+        gap = choose(rng, tasks)
         tables = []
         for p in cuts:
-            answer, starts, latencies = ref.make(tasks, p, [0] * 200,
+            answer, starts, latencies = ref.make(tasks, gap, p, [0] * 200,
                                                  [0] * 200)
             g, x0 = answer[1], answer[2]
             same(answer, ("ok", g, x0, H, H // tasks[p - 1][0]), "made")
@@ -2183,63 +2727,476 @@ def group_full_range(rng):
         # At each anchor, and just before the next one.
         ticks += starts[:g] + [start - 1 for start in starts[1:g]]
         for t in ticks:
-            same(ref.read_table(*tables[0], t), ref.delay(tasks, t),
+            same(ref.read_table(*tables[0], t), ref.delay(tasks, gap, t),
                  "table at %d" % t)
         # The age nears its limit just before the write that ends the
         # segment with the greatest latency.
         longest = ref.greatest(*tables[0])[1]
         start = starts[latencies.index(longest)]
-        same(1 + ref.age(tasks, start + longest - 1)[1], longest,
+        same(1 + ref.age(tasks, gap, start + longest - 1)[1], longest,
              "greatest age")
 
 
-def group_bounds(rng):
+def group_full_range(rng):
+    full_range(rng, no_gap)
+
+
+def group_full_range_with_gaps(rng):
+    full_range(rng, wide_gap)
+
+
+def bounds(rng, choose):
     """Bounds by hand: from place i on, reads wait less than a period."""
     largest = 0
-    for _ in range(1_500):
+    for turn in range(1_500):
         tasks = large_chain(rng)
-        _ok, way, x0, _H = ref.warm_up(tasks)
+        gap = choose(rng, tasks)
+        if gap and turn % 2:
+            tasks = tightened(rng, tasks, gap)
+        _ok, way, x0, _H = ref.warm_up(tasks, gap)
         n = len(tasks)
         bound = max(
-            tasks[i][2] - sum(D for _T, D, _F in tasks[:i])
+            tasks[i][2] - sum(D + gap for _T, D, _F in tasks[:i])
             + sum(T - 1 for T, _D, _F in tasks[i + 1:]) for i in range(n))
         same(x0 <= bound, True, "bound of x0 %r" % (tasks,))
-        latency = sum(T + D for T, D, _F in tasks) - (n - 1)
+        latency = sum(T + D for T, D, _F in tasks) + (n - 1) * (gap - 1)
+        same(latency <= 60_010_989, True, "bound of every latency")
         t = rng.randint(x0, x0 + 60_000_000)
-        found = ref.delay(tasks, t)[1]
+        found = ref.delay(tasks, gap, t)[1]
         same(found <= latency, True, "bound of the delay %r" % (tasks,))
-        same(found > sum(D for _T, D, _F in tasks), True,
-             "the delay is above all durations %r" % (tasks,))
+        same(found > sum(D for _T, D, _F in tasks) + (n - 1) * gap, True,
+             "the delay is above all durations and gaps %r" % (tasks,))
         largest = max(largest, way[-1])
     # The chains reach beyond the literal search of the warm-up job.
     same(largest > 1_000_000, True, "a large warm-up job was met")
+
+
+def group_bounds(rng):
+    bounds(rng, no_gap)
     # The largest values, by hand: each write is the next place's read.
     worst = [(1_000_000, 4_000_000, 1_000_000)] * 12
-    same(ref.warm_up(worst), ("ok", [4 * i for i in range(12)],
-                              1_000_000, 1_000_000), "largest values")
-    same(ref.delay(worst, 1_000_000), ("ok", 49_000_000),
+    same(ref.warm_up(worst, 0), ("ok", [4 * i for i in range(12)],
+                                 1_000_000, 1_000_000), "largest values")
+    same(ref.delay(worst, 0, 1_000_000), ("ok", 49_000_000),
          "delay of the largest values")
+    # With a gap each value waits for the read a period later.
+    for gap in (1, 2, 999, 1_000):
+        same(ref.warm_up(worst, gap), ("ok", [5 * i for i in range(12)],
+                                       1_000_000, 1_000_000),
+             "largest values with gap %d" % gap)
+        same(ref.delay(worst, gap, 1_000_000), ("ok", 60_000_000),
+             "delay of the largest values with gap %d" % gap)
+
+
+def group_bounds_with_gaps(rng):
+    bounds(rng, wide_gap)
 
 
 def group_anchor_corners(_rng):
     # The last partition already starts in the next hyperperiod.
     tasks = [(100, 1, 0), (10, 1, 50)]
-    same(ref.partitions(tasks, 2),
+    same(ref.partitions(tasks, 0, 2),
          [(0, 61), (0, 71), (0, 81), (0, 91), (0, 101), (0, 111),
           (100, 121), (100, 131), (100, 141), (100, 151)],
          "ten partitions at place 2")
-    same(ref.anchors(tasks, 2), [(0, 111)], "one anchor at place 2")
-    same(ref.anchors(tasks, 1), [(0, 111)], "one anchor at place 1")
-    same(ref.make(tasks, 2, [], []),
+    same(ref.anchors(tasks, 0, 2), [(0, 111)], "one anchor at place 2")
+    same(ref.anchors(tasks, 0, 1), [(0, 111)], "one anchor at place 1")
+    same(ref.make(tasks, 0, 2, [], []),
          (("refused", 11, 0, 1, 0, 100, 10), [], []), "two empty lists")
     # Ends that repeat more than once leave one anchor.  Job 0 of the last
     # place reads before any write, so its job 1 is W2 and 5 is W1.
     tasks = [(1, 1, 0), (6, 1, 0)]
-    same(ref.warm_up(tasks), ("ok", [5, 1], 5, 6), "warm-up by hand")
-    same(ref.partitions(tasks, 1), [(start, 13) for start in range(5, 11)],
+    same(ref.warm_up(tasks, 0), ("ok", [5, 1], 5, 6), "warm-up by hand")
+    same(ref.partitions(tasks, 0, 1), [(start, 13) for start in range(5, 11)],
          "six partitions with one end")
     for p in (1, 2):
-        same(ref.anchors(tasks, p), [(5, 8)], "one anchor remains")
+        same(ref.anchors(tasks, 0, p), [(5, 8)], "one anchor remains")
+
+
+# ---------------------------------------------------------------------------
+# The gap, order 5
+# ---------------------------------------------------------------------------
+
+CHAIN_B = [(10, 3, 5)]
+CHAIN_C = [(5, 5, 0), (5, 5, 0)]
+CHAIN_D = [(10, 2, 0), (10, 1, 95)]
+CHAIN_X = [(3, 2, 1), (7, 5, 2), (4, 4, 0)]
+
+
+def group_gap_by_hand(_rng):
+    # Chain, gap, W, x0, H and the anchors.
+    cases = [
+        # C: a value written at 5 is read at 5, with a gap at 10.  Gap 5 is
+        # the last with which the read at 10 is in time.
+        ("C", CHAIN_C, 0, [0, 1], 0, 5, [(0, 15)]),
+        ("C", CHAIN_C, 1, [0, 2], 0, 5, [(0, 20)]),
+        ("C", CHAIN_C, 2, [0, 2], 0, 5, [(0, 20)]),
+        ("C", CHAIN_C, 4, [0, 2], 0, 5, [(0, 20)]),
+        ("C", CHAIN_C, 5, [0, 2], 0, 5, [(0, 20)]),
+        ("C", CHAIN_C, 6, [0, 3], 0, 5, [(0, 25)]),
+        ("C", CHAIN_C, 1_000, [0, 201], 0, 5, [(0, 1_015)]),
+        # A: with gap 2 the write at 4 is readable at 6, just in time.
+        ("A", CHAIN_A, 0, [0, 1], 0, 12, [(0, 18), (8, 16)]),
+        ("A", CHAIN_A, 1, [0, 1], 0, 12, [(0, 18), (4, 20)]),
+        ("A", CHAIN_A, 2, [0, 1], 0, 12, [(0, 18), (4, 20)]),
+        ("A", CHAIN_A, 3, [1, 2], 4, 12, [(4, 20), (8, 22)]),
+        ("A", CHAIN_A, 4, [1, 2], 4, 12, [(4, 20), (8, 22)]),
+        ("A", CHAIN_A, 1_000, [1, 168], 4, 12, [(4, 1_016), (8, 1_018)]),
+        # D: the read at 95 takes the write at 92 up to gap 3.
+        ("D", CHAIN_D, 0, [9, 0], 90, 10, [(90, 16)]),
+        ("D", CHAIN_D, 2, [9, 0], 90, 10, [(90, 16)]),
+        ("D", CHAIN_D, 3, [9, 0], 90, 10, [(90, 16)]),
+        ("D", CHAIN_D, 4, [8, 0], 80, 10, [(80, 26)]),
+        ("D", CHAIN_D, 1_000, [0, 91], 0, 10, [(0, 1_016)]),
+    ]
+    # B has no link, so no gap matters.
+    cases += [("B", CHAIN_B, gap, [0], 5, 10, [(5, 13)])
+              for gap in (0, 1, 2, 500, 999, 1_000)]
+    # Each link adds a gap, and each read comes a tick too early: the longest
+    # latency of all.  Without a gap, further below, it is 11 times 1,000
+    # less.
+    cases += [("twelve places",
+               [(1_000_000, 4_000_000, 999 * i) for i in range(12)], 1_000,
+               [5 * i for i in range(12)], 0, 1_000_000, [(0, 60_010_989)])]
+    for name, tasks, gap, way, x0, H, expected in cases:
+        what = "%s with gap %d" % (name, gap)
+        same(ref.warm_up(tasks, gap), ("ok", way, x0, H), what)
+        same(literal_warm_up(tasks, gap), way, what + ", searched")
+        for p in range(1, len(tasks) + 1):
+            same(ref.anchors(tasks, gap, p), expected, what)
+            g = len(expected)
+            same(ref.make(tasks, gap, p, [7] * (g + 1), [9] * (g + 1)),
+                 (("ok", g, x0, H, H // tasks[p - 1][0]),
+                  [start for start, _latency in expected] + [7],
+                  [latency for _start, latency in expected] + [9]), what)
+        for start, latency in expected:
+            same(ref.delay(tasks, gap, start), ("ok", latency), what)
+        same(ref.delay(tasks, gap, x0 - 1) if x0 else ("refused", 12, 0),
+             ("refused", 12, 0), what + ", too early")
+    same(ref.delay(CHAIN_C, 1, 0), ("ok", 20), "C with gap 1 at 0")
+    same(ref.age(CHAIN_C, 1, 15), ("ok", 15), "C with gap 1, age at 15")
+    same(ref.age(CHAIN_C, 1, 14), ("refused", 12, 0), "C, age at 14")
+    same(ref.age(CHAIN_C, 1, 19), ("ok", 19), "C with gap 1, age at 19")
+    same(ref.age(CHAIN_C, 1, 20), ("ok", 15), "C with gap 1, age at 20")
+    for t, expected in ((4, 20), (7, 17), (8, 22), (15, 15), (16, 20)):
+        same(ref.delay(CHAIN_A, 3, t), ("ok", expected),
+             "A with gap 3 at %d" % t)
+    same(ref.age(CHAIN_A, 3, 17), ("refused", 12, 0), "A, age at 17")
+    for z, expected in ((18, 14), (23, 19), (24, 16), (29, 21)):
+        same(ref.age(CHAIN_A, 3, z), ("ok", expected),
+             "A with gap 3, age at %d" % z)
+    same(ref.partitions(CHAIN_A, 1, 1), [(0, 18), (4, 24), (8, 24)],
+         "A with gap 1, partitions at 1")
+    same(ref.partitions(CHAIN_A, 1, 2), [(0, 18), (4, 24)],
+         "A with gap 1, partitions at 2")
+    # With gap 1 every job of A needs more than 11; without, job 2 does not.
+    same(ref.windows(CHAIN_A, 1, 11, 2), ("ok", 2, 1), "A with gap 1")
+    same(ref.windows(CHAIN_A, 0, 11, 2), ("ok", 2, 3), "A without a gap")
+    # X, the first anchor by hand: 1, 4, 6, 10, 16, 21, 25, 28, 32.
+    same(ref.warm_up(CHAIN_X, 4), ("ok", [0, 1, 5], 1, 84), "X with gap 4")
+    for p in (1, 2, 3):
+        same(ref.anchors(CHAIN_X, 4, p)[0], (1, 31), "X with gap 4")
+    twelve = [(1_000_000, 4_000_000, 999 * i) for i in range(12)]
+    same(ref.age(twelve, 1_000, 60_010_988), ("ok", 60_010_988),
+         "greatest age of all")
+    same(ref.age(twelve, 1_000, 60_010_989), ("ok", 59_010_989),
+         "and a tick later")
+    without = [(1_000_000, 4_000_000, 999_999 * i % 1_000_000)
+               for i in range(12)]
+    for p in (1, 12):
+        same([latency for _start, latency in ref.anchors(without, 0, p)],
+             [59_999_989], "greatest latency without a gap")
+    # Refusals.
+    same(ref.check_chain(CHAIN_A, 1_001), ("refused", 5, 0), "A, 1,001")
+    same(ref.check_chain(CHAIN_B, 1_001), ("refused", 5, 0), "B, 1,001")
+    same(ref.check_chain([(0, 1, 0)], 1_001), ("refused", 5, 1),
+         "the task before the gap")
+    long = [(769, 1, 0), (78_125, 1, 0)]
+    same(ref.check_chain(long, 1_001), ("refused", 5, 0), "the gap before 7")
+    same(ref.check_chain(long, 1_000), ("refused", 7, 0), "7")
+    same(ref.check_chain([], 1_001), ("refused", 8, 0), "8 before the gap")
+    lent = b"x" * 60
+    for gap, expected in ((1_001, ("refused", 5, 0)),
+                          (1_000, ("refused", 6, 2)), (0, ("refused", 6, 2))):
+        arguments = schedule([(1, 4, 4, 0)], [[1, 9]], gap)
+        same(ref.write_file(*arguments, lent), (expected, lent),
+             "writing with gap %d" % gap)
+        same(ref.chain_of_schedule(*arguments, 3), expected,
+             "chain with gap %d" % gap)
+
+
+def group_gap_files_by_hand(_rng):
+    """Files of one task (18 bytes) and one chain of two places (8 bytes)."""
+    task = bytes.fromhex("1200" "0100" "0100" "04000000" "04000000"
+                         "00000000")
+    chain = bytes.fromhex("0800" "0200" "0100" "0100")
+    gap = bytes.fromhex("0600" "0400" "0100")
+    end = bytes.fromhex("0400" "0300")
+    file = task + chain + gap + end
+    same(len(file), 36, "36 bytes")
+    read = ("ok", [(1, 4, 4, 0)], [[1, 1]], 1)
+    same(ref.read_file(file), read, "gap 1")
+    same(ref.write_file(*schedule(*read[1:]), b"\xaa" * 40),
+         (("ok", 36), file + b"\xaa" * 4), "written")
+    same(ref.write_file(*schedule(*read[1:]), b"\xaa" * 35),
+         (("refused", 11, 0), b"\xaa" * 35), "35 bytes lent")
+    same(ref.write_file(*schedule(*read[1:3], 0), b"\xaa" * 40),
+         (("ok", 30), task + chain + end + b"\xaa" * 10), "gap 0 written")
+    # 1,000 is 03E8 in hexadecimal.
+    most = bytes.fromhex("0600" "0400" "e803")
+    same(ref.read_file(task + chain + most + end),
+         (*read[:3], 1_000), "gap 1,000")
+    none = bytes.fromhex("0600" "0400" "0000")
+    above = bytes.fromhex("0600" "0400" "e903")
+    long = bytes.fromhex("0800" "0400" "0100" "0000")
+    for what, data, number, offset in [
+            ("value 0", task + chain + none + end, 5, 26),
+            ("value 1,001", task + chain + above + end, 5, 26),
+            ("value 65,535",
+             task + chain + bytes.fromhex("06000400ffff") + end, 5, 26),
+            ("twice", task + chain + gap + gap + end, 4, 32),
+            ("twice, the second 0", task + chain + gap + none + end, 4, 32),
+            ("before the chain", task + gap + chain + end, 4, 18),
+            ("0 before the chain", task + none + chain + end, 4, 18),
+            ("first", gap + task + chain + end, 4, 0),
+            ("a chain after it", task + chain + gap + chain + end, 4, 32),
+            ("an unknown task after it", task + chain + gap
+             + bytes.fromhex("060002000900") + end, 4, 32),
+            ("a task after it", task + chain + gap + task + end, 4, 32),
+            ("length 8", task + chain + long + end, 2, 26),
+            ("length 8 before the chain", task + long + chain + end, 2, 18),
+            ("length 8 twice", task + chain + gap + long + end, 2, 32),
+            ("length 4", task + chain + bytes.fromhex("04000400") + end, 2,
+             26),
+            ("no end", task + chain + gap, 1, 32),
+            ("a byte of it missing", task + chain + gap[:5], 1, 26),
+            ("a byte after the end", file + b"\0", 4, 36),
+            ("a gap after the end", file + gap, 4, 36),
+            ("kind 5", task + chain + bytes.fromhex("060005000100") + end, 3,
+             26)]:
+        same(ref.read_file(data), ("refused", number, offset), what)
+        same(ref.report(data), b"refused %d %d\n" % (number, offset), what)
+
+
+def group_links(rng):
+    """One link by listing jobs: each write + gap against each read."""
+    met = {}
+
+    def check(first, second, gap):
+        (T, D, F), (next_T, _D, next_F) = first, second
+        most = (F + 6 * T + D + gap) // next_T + 2
+        readable = [F + i * T + D + gap
+                    for i in range((next_F + 6 * next_T) // T + 2)]
+        reads = [next_F + j * next_T for j in range(most)]
+        what = "%r %r gap %d" % (first, second, gap)
+        for i in range(6):
+            tick = F + i * T + D + gap
+            found = min(j for j in range(most) if tick <= reads[j])
+            same(ref.forward([first, second], gap, 1, i), found, what)
+            kind = "just fits" if reads[found] == tick else "waits"
+            if found and reads[found - 1] == tick - 1:
+                kind = "just misses"
+            met[kind] = met.get(kind, 0) + 1
+        for j in range(6):
+            read = next_F + j * next_T
+            before = [i for i, tick in enumerate(readable) if tick <= read]
+            found = max(before) if before else None
+            same(ref.backward([first, second], gap, 2, j), found, what)
+            met[found is None] = met.get(found is None, 0) + 1
+
+    for T, next_T in itertools.product((1, 2, 3, 4), repeat=2):
+        for D, F, next_F, gap in itertools.product((1, 2, 5), (0, 1),
+                                                   (0, 1, 4, 9), range(6)):
+            check((T, D, F), (next_T, 1, next_F), gap)
+    for _ in range(1_500):
+        first, second = [(rng.randint(1, 60), rng.randint(1, 90),
+                          rng.randint(0, 90)) for _ in range(2)]
+        check(first, second, rng.choice([deciding_gap(rng, [first, second]),
+                                         rng.randint(0, 1_000), 1_000]))
+    for kind in ("just fits", "just misses", "waits", True, False):
+        same(met.get(kind, 0) > 500, True, "often met: %s" % kind)
+    # Over the full range each step's neighbours decide.
+    for _ in range(1_000):
+        tasks = large_chain(rng)
+        gap = wide_gap(rng)
+        tasks = tightened(rng, tasks, gap)
+        for place in range(1, len(tasks)):
+            (T, D, F), (next_T, _D, next_F) = tasks[place - 1:place + 1]
+            pair = tasks[place - 1:place + 1]
+            i = rng.choice([0, rng.randint(0, 10 ** 6)])
+            j = ref.forward(pair, gap, 1, i)
+            tick = F + i * T + D + gap
+            same((tick <= next_F + j * next_T,
+                  j == 0 or tick > next_F + (j - 1) * next_T),
+                 (True, True), "forward is the earliest")
+            i = ref.backward(pair, gap, 2, j)
+            same((F + i * T + D + gap <= next_F + j * next_T,
+                  F + (i + 1) * T + D + gap > next_F + j * next_T),
+                 (True, True), "backward is the latest")
+
+
+def flow(tasks, gap, until):
+    """What lies at the chain's end at each tick before `until`.
+
+    Values travel tick by tick, and nothing is searched.  A value is told by
+    the tick at which the first place read it, None where there is none yet.
+    Behind the last place it lies from its write on, behind each other place
+    from write + gap on.  Within a tick values come to lie before jobs read,
+    so equal ticks connect.
+    """
+    places = range(len(tasks))
+    lies = [None for _ in places]
+    comes = [{} for _ in places]
+    seen = []
+    for tick in range(until):
+        for place in places:
+            if tick in comes[place]:
+                lies[place] = comes[place].pop(tick)
+        for place, (T, D, F) in enumerate(tasks):
+            if tick >= F and (tick - F) % T == 0:
+                value = tick if place == 0 else lies[place - 1]
+                if value is not None:
+                    wait = gap if place < len(tasks) - 1 else 0
+                    comes[place][tick + D + wait] = value
+        seen.append(lies[-1])
+    return seen
+
+
+def group_flow(rng):
+    """Warm-up, age and delay against values that travel tick by tick."""
+    chains = [(tasks, gap) for tasks in (CHAIN_A, CHAIN_B, CHAIN_C, CHAIN_D,
+                                         CHAIN_X)
+              for gap in (0, 1, 2, 3, 4, 5, 6, 7, 999, 1_000)]
+    for _ in range(250):
+        tasks = small_chain(rng, 60)
+        chains.append((tasks, small_gap(rng, tasks)))
+    for tasks, gap in chains:
+        what = "%r gap %d" % (tasks, gap)
+        _ok, way, x0, H = ref.warm_up(tasks, gap)
+        # Longer than two hyperperiods of presses and their delays.
+        until = tasks[-1][2] + way[-1] * tasks[-1][0] + 4 * H \
+            + sum(T + D + gap for T, D, _F in tasks)
+        seen = flow(tasks, gap, until)
+        first = next(z for z in range(until) if seen[z] is not None)
+        same((first, seen[first]),
+             (tasks[-1][2] + way[-1] * tasks[-1][0] + tasks[-1][1], x0),
+             "the first value comes with Wn and stems from W1, " + what)
+        if first > 0:
+            same(ref.age(tasks, gap, first - 1), ("refused", 12, 0), what)
+        same([ref.age(tasks, gap, z) for z in range(first, first + 2 * H)],
+             [("ok", z - seen[z]) for z in range(first, first + 2 * H)],
+             "age of " + what)
+        # A press is booked by the first value that was read after it.
+        booked = []
+        z = first
+        for t in range(x0, x0 + 2 * H):
+            while seen[z] <= t:
+                z += 1
+            booked.append(("ok", z - t))
+        same([ref.delay(tasks, gap, t) for t in range(x0, x0 + 2 * H)],
+             booked, "delay of " + what)
+
+
+def plain_backward_way(tasks, job):
+    """Document 01's backward way; it knows no gap."""
+    way = [job]
+    for (T, D, F), (next_T, _D, next_F) in zip(tasks[-2::-1], tasks[:0:-1]):
+        read = next_F + way[0] * next_T
+        if F + D > read:
+            return None
+        way.insert(0, max(i for i in range(read // T + 1)
+                          if F + i * T + D <= read))
+    return way
+
+
+def group_gap_of_none(rng):
+    """With gap 0 every answer is that of document 01, which has no gap."""
+    for _ in range(200):
+        tasks = small_chain(rng, 60)
+        what = repr(tasks)
+        H = literal_hyperperiod(tasks)
+        last = next(job for job in itertools.count()
+                    if plain_backward_way(tasks, job) is not None)
+        way = plain_backward_way(tasks, last)
+        T, D, F = tasks[-1]
+        x0 = tasks[0][2] + way[0] * tasks[0][0]
+        same(ref.warm_up(tasks, 0), ("ok", way, x0, H), "warm-up " + what)
+        z0 = F + last * T + D
+        for offset in range(H):
+            # The latest write of the last place at or before this tick.
+            job = last + offset // T
+            start = plain_backward_way(tasks, job)[0]
+            same(ref.age(tasks, 0, z0 + offset),
+                 ("ok", z0 + offset - tasks[0][2] - start * tasks[0][0]),
+                 "age " + what)
+        for t in range(x0, x0 + H):
+            # The first job of the last place that stems from a read after t.
+            job = last
+            while tasks[0][2] + plain_backward_way(tasks, job)[0] \
+                    * tasks[0][0] <= t:
+                job += 1
+            same(ref.delay(tasks, 0, t), ("ok", F + job * T + D - t),
+                 "delay " + what)
+        delays = [ref.delay(tasks, 0, x0 + offset)[1] for offset in range(H)]
+        for p in range(1, len(tasks) + 1):
+            same(ref.anchors(tasks, 0, p), anchors_from_delays(delays, x0),
+                 "anchors " + what)
+
+
+def moved(tasks, ticks):
+    """The chain with each place read that much later after the one before."""
+    return [(T, D, F + index * ticks)
+            for index, (T, D, F) in enumerate(tasks)]
+
+
+def group_gap_and_phases(rng):
+    """A longer gap, with later places reading so much later, keeps the jobs.
+
+    Every read and write of place i then comes i - 1 times as many ticks
+    later as the gap is longer, so each job connects as it did.
+    """
+    for turn in range(400):
+        more = rng.choice([1, 2, rng.randint(1, 1_000), 1_000])
+        gap = rng.choice([0, 0, 1_000 - more, rng.randint(0, 1_000 - more)])
+        if turn % 2:
+            tasks = small_chain(rng, 120)
+        else:
+            while True:
+                tasks = [(T, D, min(F, 989_000))
+                         for T, D, F in large_chain(rng)]
+                H = math.lcm(*[task[0] for task in tasks])
+                if H <= 200 * max(task[0] for task in tasks):
+                    break
+        later = moved(tasks, more)
+        lag = (len(tasks) - 1) * more
+        what = "%r gap %d and %d" % (tasks, gap, gap + more)
+        _ok, way, x0, H = ref.warm_up(tasks, gap)
+        same(ref.warm_up(later, gap + more), ("ok", way, x0, H), what)
+        z0 = ref.write_of(tasks[-1], way[-1])
+        for _ in range(5):
+            t = rng.randint(x0, rng.choice([x0 + 2 * H, UPPER]))
+            same(ref.delay(later, gap + more, t),
+                 ("ok", ref.delay(tasks, gap, t)[1] + lag), "delay " + what)
+            z = rng.randint(z0, rng.choice([z0 + 2 * H, UPPER - lag]))
+            same(ref.age(later, gap + more, z + lag),
+                 ("ok", ref.age(tasks, gap, z)[1] + lag), "age " + what)
+        same(ref.age(later, gap + more, z0 + lag - 1), ("refused", 12, 0),
+             "age too early " + what)
+        p = ref.longest_period_place(tasks)
+        found = ref.anchors(tasks, gap, p)
+        same(ref.anchors(later, gap + more, p),
+             [(start, latency + lag) for start, latency in found],
+             "anchors " + what)
+        T1 = tasks[0][0]
+        if H // T1 <= 300:
+            B = rng.choice(found)[1] - rng.randint(0, T1)
+            k = rng.randint(1, 10)
+            same(ref.windows(later, gap + more, max(0, B) + lag, k),
+                 ref.windows(tasks, gap, max(0, B), k), "windows " + what)
+        t = rng.randint(x0, x0 + H)
+        same(ref.bookings(later, gap + more, later[:1], gap, t)[1:3],
+             (ref.booking(tasks, gap, t) + lag, ref.booking(tasks[:1], 0, t)),
+             "bookings " + what)
 
 
 GROUPS = [
@@ -2273,6 +3230,29 @@ GROUPS = [
     ("mean by hand", group_mean_by_hand),
     ("mean by area", group_mean_by_area),
     ("mean on finer clocks", group_mean_on_finer_clocks),
+    ("gap by hand", group_gap_by_hand),
+    ("files with a gap by hand", group_gap_files_by_hand),
+    ("gap records in a file", group_gap_records),
+    ("one link with gaps", group_links),
+    ("values that travel with gaps", group_flow),
+    ("gap 0 is no gap", group_gap_of_none),
+    ("a longer gap and later phases", group_gap_and_phases),
+    ("warm-up with gaps", group_warm_up_with_gaps),
+    ("demand 3 at every tick with gaps", group_demand_3_with_gaps),
+    ("making with gaps", group_making_with_gaps),
+    ("windows of jobs with gaps", group_windows_with_gaps),
+    ("windows by chain number with gaps",
+     group_windows_of_schedules_with_gaps),
+    ("file round trips with gaps", group_file_round_trips_with_gaps),
+    ("faults of a schedule with gaps", group_schedule_faults_with_gaps),
+    ("analyses by chain number with gaps",
+     group_schedule_analyses_with_gaps),
+    ("two chains at every tick with gaps", group_pairs_every_tick_with_gaps),
+    ("two chains, large values with gaps", group_pairs_large_with_gaps),
+    ("report with gaps", group_report_with_gaps),
+    ("full-range values with gaps", group_full_range_with_gaps),
+    ("bounds with gaps", group_bounds_with_gaps),
+    ("mean on finer clocks with gaps", group_mean_on_finer_clocks_with_gaps),
 ]
 
 

@@ -20,6 +20,8 @@ TICKS = 1000
 COLUMNS = ("Max", "Min", "Av", "Thr", "m", "LE")
 # The windows of the column (m,k) have 10 jobs.
 WINDOW = 10
+# The published chains run on one board: a value is readable at its write.
+GAP = 0
 
 # Name, the periods in milliseconds, and the six columns as the paper prints them. Phases are 0, durations are the periods.
 CASES = (
@@ -58,12 +60,12 @@ class Program:
     def table(self, tasks, p):
         """The table of a chain cut at place p, as the calls on a table take it."""
         slots = [0] * slots_for(tasks)
-        answer, starts, latencies = self.calls.make(flat(tasks), len(tasks), p, slots, slots)
+        answer, starts, latencies = self.calls.make(flat(tasks), len(tasks), GAP, p, slots, slots)
         g, _, h, _ = values(answer)
         return (library.table(starts, latencies, g, h),)
 
     def windows(self, tasks, bound):
-        return values(self.calls.windows(flat(tasks), len(tasks), bound, WINDOW))[0]
+        return values(self.calls.windows(flat(tasks), len(tasks), GAP, bound, WINDOW))[0]
 
     def figure(self, name, *arguments):
         return values(getattr(self.calls, name)(*arguments))
@@ -76,12 +78,12 @@ class Reference:
 
     def table(self, tasks, p):
         slots = [0] * slots_for(tasks)
-        answer, starts, latencies = reference.make(tasks, p, slots, slots)
+        answer, starts, latencies = reference.make(tasks, GAP, p, slots, slots)
         g, _, h, _ = values(answer)
         return starts, latencies, g, h
 
     def windows(self, tasks, bound):
-        return values(reference.windows(tasks, bound, WINDOW))[0]
+        return values(reference.windows(tasks, GAP, bound, WINDOW))[0]
 
     def figure(self, name, *arguments):
         return values(getattr(reference, name)(*arguments))

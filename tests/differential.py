@@ -2,8 +2,8 @@
 
     python3 tests/differential.py [--count FACTOR] [--seed SEED]
 
-The groups run side by side, one for each processor. Each group prints its number of comparisons, and on files how often each answer was met; the last line is 'N passed, M failed', in groups. A
-disagreement is printed with its input.
+The groups run side by side, one for each processor. Each group prints its number of comparisons, and how often each kind of answer or input was met; the last line is 'N passed, M failed', in
+groups. A disagreement is printed with its input.
 """
 import argparse
 import collections
@@ -22,6 +22,10 @@ import library
 import meshorchard_reference as reference
 
 GROUPS = []
+# The name under which 5 at place 0 of a call on a chain or a schedule is counted.
+OF_GAP = "5 of the gap"
+# What note_links tells of a chain and its gap.
+LINKS = ("no gap", "a gap", "gap 1", "gap 1000", "just fits", "just misses")
 
 
 def group(function):
@@ -47,6 +51,10 @@ class Comparison:
         """Counts an answer of the reference, as "ok" or by the refusal's number."""
         self.note("ok" if answer[0] == "ok" else answer[1])
 
+    def meet_call(self, answer):
+        """The same of a call on a chain or a schedule: there 5 at place 0 is that of the gap, and counts apart from that of a task."""
+        self.note(OF_GAP if answer[:3] == ("refused", 5, 0) else "ok" if answer[0] == "ok" else answer[1])
+
     def note(self, name):
         """Counts an answer of this kind."""
         self.met[name] += 1
@@ -65,6 +73,23 @@ def padded(answer):
     return answer
 
 
+def note_links(tasks, gap, warm, compare):
+    """What an accepted chain shows of gaps: whether it has links and a gap, and whether on its way of the warm-up a value becomes readable just when a job
+    of the next place reads, or one tick later."""
+    if warm[0] != "ok" or len(tasks) == 1:
+        return
+    compare.note("a gap" if gap else "no gap")
+    if gap in (1, inputs.MOST_GAP):
+        compare.note(f"gap {gap}")
+    for (t, d, f), job, (following, _, phase) in zip(tasks, warm[1], tasks[1:]):
+        readable = f + job * t + d + gap
+        if gap and readable > phase:
+            if (readable - phase) % following == 0:
+                compare.note("just fits")
+            if (readable - phase) % following == 1 % following:
+                compare.note("just misses")
+
+
 def lent(r, tasks):
     """A chain as it is lent to C: its numbers, often with rubbish past the count."""
     numbers = inputs.flat(tasks)
@@ -75,19 +100,36 @@ def lent(r, tasks):
 def chains(ours, r, factor, compare):
     """checks, warm-up, delay and age"""
     for _ in range(int(4000 * factor)):
-        tasks = inputs.any_chain(r)
+        tasks, gap = inputs.any_linked(r, inputs.any_chain(r))
         numbers, n = lent(r, tasks), len(tasks)
-        compare.same(ours.check(numbers, n), reference.check_chain(tasks), "check", tasks)
-        warm = reference.warm_up(tasks)
-        compare.same(ours.warm_up(numbers, n), padded(warm), "warm-up", tasks)
+        checked = reference.check_chain(tasks, gap)
+        compare.same(ours.check(numbers, n, gap), checked, "check", tasks, gap)
+        compare.meet_call(checked)
+        warm = reference.warm_up(tasks, gap)
+        compare.same(ours.warm_up(numbers, n, gap), padded(warm), "warm-up", tasks, gap)
+        note_links(tasks, gap, warm, compare)
         middles = []
         if warm[0] == "ok":
             _, jobs, x0, h = warm
             t, d, f = tasks[-1]
             middles = [x0, x0 + h, f + jobs[-1] * t + d, f + (jobs[-1] + 1) * t + d]
         for tick in inputs.ticks_around(r, middles, 7):
-            compare.same(ours.delay(numbers, n, tick), reference.delay(tasks, tick), "delay", tasks, tick)
-            compare.same(ours.age(numbers, n, tick), reference.age(tasks, tick), "age", tasks, tick)
+            compare.same(ours.delay(numbers, n, gap, tick), reference.delay(tasks, gap, tick), "delay", tasks, gap, tick)
+            compare.same(ours.age(numbers, n, gap, tick), reference.age(tasks, gap, tick), "age", tasks, gap, tick)
+    compare.must_meet("ok", 5, OF_GAP, 7, 8, *LINKS)
+    # Every call at the limits of the gap: for one place, which has no link and whose gap is tested all the same, for two and for twelve.
+    for n in (1, 2, 12):
+        for gap in (0, 1, 2, inputs.MOST_GAP - 1, inputs.MOST_GAP, *inputs.FAULTY_GAPS):
+            tasks = [(r.choice([1, 2, 3, 4, 6, 12]), r.randint(1, 15), r.randint(0, 20)) for _ in range(n)]
+            numbers, t = lent(r, tasks), r.choice([0, 10**5, 10**5 + 1, inputs.UPPER + 1])
+            compare.meet_call(reference.check_chain(tasks, gap))
+            compare.same(ours.check(numbers, n, gap), reference.check_chain(tasks, gap), "check", tasks, gap)
+            compare.same(ours.warm_up(numbers, n, gap), padded(reference.warm_up(tasks, gap)), "warm-up", tasks, gap)
+            compare.same(ours.delay(numbers, n, gap, t), reference.delay(tasks, gap, t), "delay", tasks, gap, t)
+            compare.same(ours.age(numbers, n, gap, t), reference.age(tasks, gap, t), "age", tasks, gap, t)
+            compare_making(ours, r, tasks, gap, numbers, r.randint(0, n), (12, 12), compare)
+            compare_windows(ours, numbers, tasks, gap, r.choice([0, 30, gap]), r.choice([0, 1, 3]), compare)
+        compare.must_meet("ok", OF_GAP)
 
 
 @group
@@ -98,21 +140,24 @@ def lists_of_tasks(ours, r, factor, compare):
         numbers = inputs.flat(tasks) + [r.randint(1, 9) for _ in range(r.choice([1, 2, 4, 5]))]
         places = r.choice([len(tasks), 1, 12])
         eight = ("refused", 8, 0)
-        compare.same(ours.delay(numbers, places, 100), eight, "length", numbers)
-        compare.same(ours.warm_up(numbers, places), eight, "length", numbers)
+        # 8 comes before a fault of the gap.
+        gap = r.choice([0, 1, inputs.MOST_GAP, *inputs.FAULTY_GAPS])
+        compare.same(ours.delay(numbers, places, gap, 100), eight, "length", numbers, gap)
+        compare.same(ours.warm_up(numbers, places, gap), eight, "length", numbers, gap)
         whole = inputs.flat(tasks)
         # The last two would be the right count to a call that kept fewer bits.
         for places in (len(tasks) + 1, 13, 2**63, library.LARGEST, len(tasks) + 2**32, len(tasks) + 2**63):
-            compare.same(ours.age(whole, places, 100), eight, "places", whole, places)
-            compare.same(ours.check(whole, places), eight, "places", whole, places)
+            compare.same(ours.age(whole, places, gap, 100), eight, "places", whole, places, gap)
+            compare.same(ours.check(whole, places, gap), eight, "places", whole, places, gap)
 
 
-def compare_making(ours, r, tasks, numbers, p, lengths, compare):
+def compare_making(ours, r, tasks, gap, numbers, p, lengths, compare):
     """One making on lists of these lengths: its answer, and every entry of both lists after it."""
     starts, latencies = inputs.lent_lists(r, *lengths)
-    mine = ours.make(numbers, len(tasks), p, starts, latencies)
-    theirs = reference.make(tasks, p, starts, latencies)
-    compare.same(mine, theirs, "making", tasks, p, lengths)
+    mine = ours.make(numbers, len(tasks), gap, p, starts, latencies)
+    theirs = reference.make(tasks, gap, p, starts, latencies)
+    compare.same(mine, theirs, "making", tasks, gap, p, lengths)
+    compare.meet_call(theirs[0])
     return mine
 
 
@@ -120,15 +165,16 @@ def compare_making(ours, r, tasks, numbers, p, lengths, compare):
 def making(ours, r, factor, compare):
     """making a table at every cut, and its agreement with walk and age"""
     for _ in range(int(10000 * factor)):
-        tasks = inputs.cut_chain(r)
+        tasks, gap = inputs.linked(r, inputs.cut_chain(r))
         numbers, n = lent(r, tasks), len(tasks)
-        g = len(reference.anchors(tasks, 1))
+        g = len(reference.anchors(tasks, gap, 1))
+        note_links(tasks, gap, reference.warm_up(tasks, gap), compare)
         lengths = [(g, g), (g + r.randint(1, 3),) * 2, (r.randint(0, g - 1),) * 2, (g, g + 1)]
         for p in range(1, n + 1):
-            made = compare_making(ours, r, tasks, numbers, p, r.choice(lengths), compare)
+            compare_making(ours, r, tasks, gap, numbers, p, r.choice(lengths), compare)
         # The last cut once more, on lists that hold the table; then its readings against the walk, and its greatest latency against both.
         p, size = r.randint(1, n), r.choice([g, g + 2])
-        (answer, starts, latencies) = compare_making(ours, r, tasks, numbers, p, (size, size), compare)
+        (answer, starts, latencies) = compare_making(ours, r, tasks, gap, numbers, p, (size, size), compare)
         if answer[0] != "ok":
             continue
         _, g, x0, h, _ = answer
@@ -138,12 +184,41 @@ def making(ours, r, factor, compare):
             ticks += [start, max(x0, start - 1), start + h * r.randint(1, 10**6 // h + 1)]
         for t in ticks:
             if t <= inputs.UPPER:
-                compare.same(ours.read_table(table, t), ours.delay(numbers, n, t), "table and walk", tasks, p, t)
+                compare.same(ours.read_table(table, t), ours.delay(numbers, n, gap, t), "table and walk", tasks, gap, p, t)
         top = ours.greatest(table)
         for start, latency in zip(starts[:g], latencies[:g]):
             if ("ok", latency) == top:
-                compare.same(ours.delay(numbers, n, start), top, "greatest delay", tasks, p)
-                compare.same(ours.age(numbers, n, start + latency - 1), ("ok", latency - 1), "greatest age", tasks, p)
+                compare.same(ours.delay(numbers, n, gap, start), top, "greatest delay", tasks, gap, p)
+                compare.same(ours.age(numbers, n, gap, start + latency - 1), ("ok", latency - 1), "greatest age", tasks, gap, p)
+    compare.must_meet("ok", 10, 11, *LINKS)
+
+
+# The latencies of twelve places without a gap and with the longest, each link waiting as long as one can; and of one place.
+LONG_LATENCIES = (5000000, 59999989, 60010989)
+
+
+@group
+def longest_latencies(ours, r, factor, compare):
+    """making where every link waits long: latencies up to 60,010,989, and every tick around an anchor read, walked and aged"""
+    for places, gap in itertools.product((1, 2, 11, 12), (0, 1, 2, 500, inputs.MOST_GAP - 1, inputs.MOST_GAP)):
+        for short in (0, 1, 2):
+            # A job of the next place reads so many ticks before a value becomes readable: with 0 the two connect, else the value waits that much less than a period.
+            tasks = [(1000000, 4000000, (gap - short) * i % 1000000) for i in range(places)]
+            numbers = lent(r, tasks)
+            answer, starts, latencies = compare_making(ours, r, tasks, gap, numbers, r.randint(1, places), (1, 1), compare)
+            compare.same(answer[0], "ok", "making", tasks, gap)
+            if answer[0] != "ok":
+                continue
+            if latencies[0] in LONG_LATENCIES:
+                compare.note(latencies[0])
+            table = library.table(starts, latencies, 1, answer[3])
+            for step in (0, 1, 2, 999998, 999999, 1000000, r.randint(0, 10**9)):
+                t = starts[0] + step
+                compare.same(ours.read_table(table, t), ours.delay(numbers, places, gap, t), "table and walk", tasks, gap, t)
+                compare.same(ours.delay(numbers, places, gap, t), reference.delay(tasks, gap, t), "delay", tasks, gap, t)
+                z = t + latencies[0] - 1
+                compare.same(ours.age(numbers, places, gap, z), reference.age(tasks, gap, z), "age", tasks, gap, z)
+    compare.must_meet("ok", *LONG_LATENCIES)
 
 
 def longest(periods):
@@ -154,17 +229,17 @@ def longest(periods):
 def making_far_apart(ours, r, factor, compare):
     """making where periods differ much, at every cut with at most 8,000 partitions"""
     for _ in range(int(500 * factor)):
-        tasks = inputs.far_chain(r)
+        tasks, gap = inputs.linked(r, inputs.far_chain(r))
         numbers, h = lent(r, tasks), math.lcm(*[t for t, _, _ in tasks])
         for p in range(1, len(tasks) + 1):
             walked = h // tasks[p - 1][0]
             if walked <= 8000:
-                answer, _, _ = compare_making(ours, r, tasks, numbers, p, (r.choice([walked, r.randint(0, walked)]),) * 2, compare)
-                compare.meet(answer)
+                answer, _, _ = compare_making(ours, r, tasks, gap, numbers, p, (r.choice([walked, r.randint(0, walked)]),) * 2, compare)
                 if answer[0] == "ok":
                     compare.note(longest(t for t, _, _ in tasks))
+                    note_links(tasks, gap, reference.warm_up(tasks, gap), compare)
     # Of every kind there was a table, so that each of these periods was stepped with.
-    compare.must_meet("ok", 11, *map(longest, inputs.FAR_APART))
+    compare.must_meet("ok", 11, *map(longest, inputs.FAR_APART), *LINKS)
 
 
 @group
@@ -172,40 +247,42 @@ def making_refused(ours, r, factor, compare):
     """making refused: chains, places and lists"""
     for _ in range(int(2000 * factor)):
         tasks = inputs.cut_chain(r) if r.random() < 0.5 else inputs.any_chain(r)
-        if len(tasks) in range(1, 13) and reference.check_chain(tasks)[0] == "ok" and math.lcm(*[t for t, _, _ in tasks]) > 10**4:
+        if len(tasks) in range(1, 13) and reference.check_chain(tasks, 0)[0] == "ok" and math.lcm(*[t for t, _, _ in tasks]) > 10**4:
             tasks = inputs.cut_chain(r)
+        tasks, gap = inputs.any_linked(r, tasks)
         numbers = lent(r, tasks)
         for p in (0, len(tasks) + 1, 13, library.LARGEST, r.randint(0, 13)):
             size = r.randint(0, 5)
-            compare_making(ours, r, tasks, numbers, p, (size, size + r.choice([0, 0, 1])), compare)
+            compare_making(ours, r, tasks, gap, numbers, p, (size, size + r.choice([0, 0, 1])), compare)
+    compare.must_meet("ok", 5, OF_GAP, 7, 8, 9, 10, 11)
 
 
-def window_bounds(r, tasks, warm):
+def window_bounds(r, tasks, gap, warm):
     """Bounds around the real spans of a job after W1, from its read to its forward end, and the ends of 64 bits."""
     bounds = [0, library.LARGEST, r.randint(0, 100)]
     if warm[0] == "ok":
         j = warm[1][0] + 1 + r.randrange(warm[3] // tasks[0][0])
-        span = reference.write_of(tasks[-1], reference.forward(tasks, 1, j)) - reference.read_of(tasks[0], j)
+        span = reference.write_of(tasks[-1], reference.forward(tasks, gap, 1, j)) - reference.read_of(tasks[0], j)
         bounds += 3 * [span - 1, span, span + 1]
     return bounds
 
 
-def compare_windows(ours, numbers, tasks, b, k, compare):
+def compare_windows(ours, numbers, tasks, gap, b, k, compare):
     """One answer, which is the reference's."""
-    theirs = reference.windows(tasks, b, k)
-    compare.same(ours.windows(numbers, len(tasks), b, k), theirs, "windows", tasks, b, k)
-    compare.meet(theirs)
+    theirs = reference.windows(tasks, gap, b, k)
+    compare.same(ours.windows(numbers, len(tasks), gap, b, k), theirs, "windows", tasks, gap, b, k)
+    compare.meet_call(theirs)
     return theirs
 
 
-def note_window(tasks, warm, b, k, count, job, compare):
+def note_window(tasks, gap, warm, b, k, count, job, compare):
     """Where the earliest window lies in its range, and whether the last one of the range has as many misses."""
     first, last = warm[1][0] + 1, warm[1][0] + warm[3] // tasks[0][0]
     if first < job:
         compare.note("the last job" if job == last else "a later job")
         if last < job + k - 1:
             compare.note("past the range")
-    if job < last and count == sum(reference.misses(tasks, j, b) for j in range(last, last + k)):
+    if job < last and count == sum(reference.misses(tasks, gap, j, b) for j in range(last, last + k)):
         compare.note("as many at the end")
 
 
@@ -213,14 +290,15 @@ def note_window(tasks, warm, b, k, count, job, compare):
 def windows(ours, r, factor, compare):
     """windows of jobs"""
     for i in range(int(10000 * factor)):
-        tasks = inputs.wide_window_chain(r) if i % 25 == 0 else inputs.cut_chain(r)
-        numbers, warm = lent(r, tasks), reference.warm_up(tasks)
+        tasks, gap = inputs.linked(r, inputs.wide_window_chain(r) if i % 25 == 0 else inputs.cut_chain(r))
+        numbers, warm = lent(r, tasks), reference.warm_up(tasks, gap)
+        note_links(tasks, gap, warm, compare)
         for k in r.sample([0, 1, 2, 3, r.randint(4, 12), r.randint(4, 100), 99, 100, 101, library.LARGEST], 4):
-            b = r.choice(window_bounds(r, tasks, warm))
-            theirs = compare_windows(ours, numbers, tasks, b, k, compare)
+            b = r.choice(window_bounds(r, tasks, gap, warm))
+            theirs = compare_windows(ours, numbers, tasks, gap, b, k, compare)
             if theirs[0] == "ok":
-                note_window(tasks, warm, b, k, *theirs[1:], compare)
-    compare.must_meet("ok", 15, "a later job", "the last job", "past the range", "as many at the end")
+                note_window(tasks, gap, warm, b, k, *theirs[1:], compare)
+    compare.must_meet("ok", 15, "a later job", "the last job", "past the range", "as many at the end", *LINKS)
 
 
 @group
@@ -228,12 +306,13 @@ def windows_refused(ours, r, factor, compare):
     """windows refused: chains, and k outside its limits"""
     for _ in range(int(2000 * factor)):
         tasks = inputs.any_chain(r)
-        if reference.check_chain(tasks)[0] == "ok":
+        if reference.check_chain(tasks, 0)[0] == "ok":
             tasks = [*tasks, *tasks, inputs.faulty_task(r)] if r.random() < 0.5 else inputs.cut_chain(r)
+        tasks, gap = inputs.any_linked(r, tasks)
         numbers = lent(r, tasks)
         for k in (0, 1, 101, 2**32 + 1, library.LARGEST):
-            compare_windows(ours, numbers, tasks, inputs.any_number(r), k, compare)
-    compare.must_meet("ok", 5, 7, 8, 15)
+            compare_windows(ours, numbers, tasks, gap, inputs.any_number(r), k, compare)
+    compare.must_meet("ok", 5, OF_GAP, 7, 8, 15)
 
 
 def compare_figures(ours, lent, table, compare):
@@ -252,6 +331,8 @@ def compare_table(ours, r, anchors, ticks, most, compare):
         compare.same(ours.read_table(lent, t), reference.read_table(*table, t), "reading", table, t)
     for b in inputs.bounds(r, latencies, reference.low(*table)[1], most):
         compare.same(ours.exceedance(lent, b), reference.exceedance(*table, b), "exceedance", table, b)
+    for latency in {60000001, inputs.MOST_LATENCY} & set(latencies):
+        compare.note(latency)
 
 
 @group
@@ -261,10 +342,12 @@ def tables(ours, r, factor, compare):
         starts, latencies, h = inputs.small_table(r)
         every = range(max(0, starts[0] - 2), starts[0] + h + 2)
         compare_table(ours, r, (starts, latencies, h), every, 30, compare)
+    compare.must_meet(60000001, inputs.MOST_LATENCY)
     for _ in range(int(150 * factor)):
         compare_table(ours, r, inputs.middle_table(r), [], 4, compare)
     for _ in range(int(1000 * factor)):
         compare_table(ours, r, inputs.large_table(r), [], 12, compare)
+    compare.must_meet(60000001, inputs.MOST_LATENCY)
 
 
 @group
@@ -278,10 +361,13 @@ def damaged_tables(ours, r, factor, compare):
             t, b = inputs.any_number(r), inputs.any_number(r)
             if table[0]:
                 t = r.choice([t, table[0][0]])
+            if inputs.MOST_LATENCY + 1 in table[1]:
+                compare.note(inputs.MOST_LATENCY + 1)
             compare.same(reference.read_table(*table, t), fourteen, damaged.__name__, table)
             compare.same(ours.read_table(lent, t), fourteen, "reading", table, t)
             compare_figures(ours, lent, table, compare)
             compare.same(ours.exceedance(lent, b), reference.exceedance(*table, b), "exceedance", table, b)
+    compare.must_meet(inputs.MOST_LATENCY + 1)
 
 
 # ---- Schedules and their files
@@ -296,14 +382,14 @@ def told(schedule):
     for c in range(chain_count):
         start, n = library.CHAIN * c, places[c]
         rows.append((n, chains[start:start + n]) if start + n <= len(chains) else (0, []))
-    return count, [tuple(tasks[i:i + 4]) for i in range(0, len(tasks), 4)], chain_count, rows
+    return count, [tuple(tasks[i:i + 4]) for i in range(0, len(tasks), 4)], chain_count, rows, schedule.gap
 
 
 def compare_choosing(ours, schedule, said, numbers, compare):
     """Chains of a schedule by these numbers; `said` is what its lists say."""
     for number in numbers:
         theirs = reference.chain_of_schedule(*said, number)
-        compare.meet(theirs)
+        compare.meet_call(theirs)
         compare.same(ours.chain_of_schedule(schedule, number), theirs, "chain", schedule, number)
 
 
@@ -313,46 +399,55 @@ def compare_reading(ours, data, compare, past=b""):
     mine, theirs = ours.read_file(data, past), reference.read_file(data)
     compare.meet(theirs)
     compare.same(mine, theirs, "reading", data)
-    if mine[0] != "ok":
+    if mine[0] != "ok" or mine != theirs:
         return
-    _, tasks, chains, places, (count, chain_count) = ours.read_file_as_lent(data, past)
-    schedule = library.Schedule(tasks, count, chains, places, chain_count)
+    compare.note("with a gap" if theirs[3] else "without a gap")
+    _, tasks, chains, places, (count, chain_count, gap) = ours.read_file_as_lent(data, past)
+    schedule = library.Schedule(tasks, count, chains, places, chain_count, gap)
     # Just as many lent bytes, or more, which keep their content.
     rest = b"rest" if count % 2 else b""
     written = ours.write_file(schedule, bytes(len(data)) + rest)
     compare.same(written, (("ok", len(data)), data + rest), "reading and writing", data)
     # Each of the chains in turn, from file to file.
     number = compare.met["ok"] % len(theirs[2]) + 1
-    found = reference.chain_of_schedule(len(theirs[1]), theirs[1], len(theirs[2]), [(len(chain), chain) for chain in theirs[2]], number)
+    found = reference.chain_of_schedule(len(theirs[1]), theirs[1], len(theirs[2]), [(len(chain), chain) for chain in theirs[2]], theirs[3], number)
     compare.same(ours.chain_of_schedule(schedule, number), found, "chain", data, number)
 
 
 @group
 def files(ours, r, factor, compare):
-    """schedule files: every number of tasks, of chains and of places"""
+    """schedule files: every number of tasks, of chains and of places, with a gap and without"""
     for count in range(1, inputs.MOST_TASKS + 1):
         for chain_count in range(1, inputs.MOST_CHAINS + 1):
             for places in range(1, inputs.MOST_PLACES + 1):
                 for _ in range(max(1, int(2 * factor))):
                     sizes = inputs.some_sizes(r, chain_count)
                     sizes[r.randrange(chain_count)] = places
-                    tasks, chains = inputs.schedule(r, count, sizes)
-                    data = inputs.joined(inputs.records(tasks, chains))
-                    compare.same(ours.read_file(data, r.choice([b"", data])), ("ok", tasks, chains), "reading", data)
+                    (tasks, chains), gap = inputs.schedule(r, count, sizes), inputs.file_gap(r)
+                    data = inputs.joined(inputs.records(tasks, chains, gap))
+                    compare.same(ours.read_file(data, r.choice([b"", data])), ("ok", tasks, chains, gap), "reading", data)
                     compare_reading(ours, data, compare)
-    compare.same(sum(compare.met.values()), compare.met["ok"], "files that are accepted")
+    compare.same({answer for answer in compare.met if isinstance(answer, int)}, set(), "files that are refused")
+    compare.must_meet("ok", "with a gap", "without a gap")
+    # Every gap there is, and its file.
+    for gap in range(inputs.MOST_GAP + 1):
+        data = inputs.joined(inputs.records([(7, 4, 4, 0)], [[7, 7]], gap))
+        compare.same(ours.read_file(data), ("ok", [(7, 4, 4, 0)], [[7, 7]], gap), "reading", data)
 
 
 @group
 def turns_of_records(ours, r, factor, compare):
-    """schedule files: tasks, chains and ends in every turn, up to eight records, so up to six chains; faults in each of one to six chains"""
-    for data in inputs.turns(r, 8):
+    """schedule files: tasks, chains and ends in every turn, up to eight records, so up to six chains; with gaps, up to six; faults in each of one to six chains"""
+    for data in inputs.turns(r, (inputs.TASK, inputs.CHAIN, inputs.END), 8):
         compare_reading(ours, data, compare)
     compare.must_meet("ok", 1, 4)
+    for data in inputs.turns(r, (inputs.TASK, inputs.CHAIN, inputs.GAP, inputs.END), 6):
+        compare_reading(ours, data, compare)
+    compare.must_meet("with a gap", 1, 4, 5)
     for chain_count in range(1, 7):
         for _ in range(max(1, int(8 * factor))):
             tasks, chains = inputs.schedule(r, r.choice([1, 2, 5, 32]), inputs.some_sizes(r, chain_count))
-            compare_reading(ours, inputs.joined(inputs.records(tasks, chains)), compare)
+            compare_reading(ours, inputs.joined(inputs.records(tasks, chains, inputs.file_gap(r))), compare)
             compare.must_meet("ok" if chain_count <= inputs.MOST_CHAINS else 4)
             for c in range(chain_count):
                 for data in inputs.unknown_files(r, tasks, chains, c):
@@ -361,16 +456,25 @@ def turns_of_records(ours, r, factor, compare):
 
 
 @group
+def gaps_in_files(ours, r, factor, compare):
+    """schedule files: a record of a gap at every turn, of every length around its own, with values that are accepted and others"""
+    for _ in range(max(1, int(factor))):
+        for data in inputs.gap_files(r):
+            compare_reading(ours, data, compare)
+    compare.must_meet("with a gap", 1, 2, 4, 5)
+
+
+@group
 def changed_bytes(ours, r, factor, compare):
     """schedule files: every other value of every byte"""
-    two = ([(1, 4, 4, 0), (2, 6, 6, 0), (3, 10, 3, 5)], [[1, 2], [3]])
-    for tasks, chains in (two, inputs.schedule(r, 1, [1, 2, 1, 1])):
-        data = inputs.joined(inputs.records(tasks, chains))
+    two = ([(1, 4, 4, 0), (2, 6, 6, 0), (3, 10, 3, 5)], [[1, 2], [3]], 1)
+    for tasks, chains, gap in (two, (*inputs.schedule(r, 1, [1, 2, 1, 1]), 0)):
+        data = inputs.joined(inputs.records(tasks, chains, gap))
         for i, byte in enumerate(data):
             for other in range(256):
                 if other != byte:
                     compare_reading(ours, data[:i] + bytes([other]) + data[i + 1:], compare)
-    compare.must_meet("ok", 1, 2, 3, 4, 5, 6)
+    compare.must_meet("ok", 1, 2, 3, 4, 5, 6, "with a gap", "without a gap")
 
 
 @group
@@ -378,11 +482,11 @@ def cut_files(ours, r, factor, compare):
     """schedule files: cut at every length"""
     for i in range(max(1, int(12 * factor))):
         tasks, chains = inputs.schedule(r, 32, [12] * 4) if i == 0 else inputs.any_schedule(r)
-        data = inputs.joined(inputs.records(tasks, chains))
+        data = inputs.joined(inputs.records(tasks, chains, inputs.MOST_GAP if i == 0 else inputs.file_gap(r)))
         for n in range(len(data) + 1):
             # The rest lies in memory past the lent bytes: a call that looks there accepts the file.
             compare_reading(ours, data[:n], compare, data[n:])
-    compare.must_meet("ok", 1)
+    compare.must_meet("ok", 1, "with a gap")
 
 
 @group
@@ -394,7 +498,8 @@ def damaged_records(ours, r, factor, compare):
                 # As many files for each record, so of a long file a beginning and an end of few records.
                 count = 4
             tasks, chains = inputs.schedule(r, count, sizes)
-            for data in damaged(r, inputs.records(tasks, chains)):
+            # A gap where there is an even number of chains.
+            for data in damaged(r, inputs.records(tasks, chains, r.choice(inputs.GAP_VALUES) if len(sizes) % 2 == 0 else 0)):
                 compare_reading(ours, data, compare)
         compare.must_meet(*answers)
 
@@ -404,7 +509,7 @@ def faulty_records(ours, r, factor, compare):
     """schedule files: values at and past their limits, unknown tasks, too many tasks, several faults in one record"""
     for count in (1, 2, 3, 8, 32):
         tasks, chains = inputs.schedule(r, count, [r.randint(1, 12)])
-        for data in inputs.edge_files(r, tasks, chains):
+        for data in inputs.edge_files(r, tasks, chains, inputs.file_gap(r)):
             compare_reading(ours, data, compare)
     compare.must_meet("ok", 5)
     for places in range(1, inputs.MOST_PLACES + 1):
@@ -429,11 +534,11 @@ def random_files(ours, r, factor, compare):
     compare.must_meet(1, 2, 3)
     for _ in range(int(6000 * factor)):
         compare_reading(ours, inputs.random_records(r), compare)
-    compare.must_meet("ok", 1, 3, 4, 5, 6)
+    compare.must_meet("ok", 1, 2, 3, 4, 5, 6, "with a gap", "without a gap")
 
 
-def file_length(count, sizes):
-    return 18 * count + 4 * len(sizes) + 2 * sum(sizes) + 4
+def file_length(count, sizes, gap):
+    return 18 * count + 4 * len(sizes) + 2 * sum(sizes) + (6 if gap else 0) + 4
 
 
 def lent_sizes(r, length):
@@ -445,11 +550,12 @@ def compare_writing(ours, r, schedule, said, size, compare):
     """One writing into so many lent bytes. What is written is read again, as the same schedule."""
     out = r.randbytes(size)
     mine, theirs = ours.write_file(schedule, out), reference.write_file(*said, out)
-    compare.meet(theirs[0])
+    compare.meet_call(theirs[0])
     compare.same(mine, theirs, "writing", schedule, size)
     if mine[0][0] == "ok":
-        count, tasks, _, rows = said
-        compare.same(ours.read_file(mine[1][:mine[0][1]]), ("ok", tasks[:count], [numbers for _, numbers in rows]), "writing and reading", schedule)
+        count, tasks, _, rows, gap = said
+        compare.note("with a gap" if gap else "without a gap")
+        compare.same(ours.read_file(mine[1][:mine[0][1]]), ("ok", tasks[:count], [numbers for _, numbers in rows], gap), "writing and reading", schedule)
 
 
 @group
@@ -459,10 +565,13 @@ def writing(ours, r, factor, compare):
         for places in range(1, inputs.MOST_PLACES + 1):
             sizes = inputs.some_sizes(r, (count + places) % inputs.MOST_CHAINS + 1)
             sizes[r.randrange(len(sizes))] = places
-            schedule = inputs.lent_schedule(r, *inputs.schedule(r, count, sizes))
-            for size in lent_sizes(r, file_length(count, sizes)):
+            gap = inputs.file_gap(r)
+            schedule = inputs.lent_schedule(r, *inputs.schedule(r, count, sizes), gap)
+            for size in lent_sizes(r, file_length(count, sizes, gap)):
                 compare_writing(ours, r, schedule, told(schedule), size, compare)
-    compare.must_meet("ok", 11)
+            # Just as many bytes as it would have without its gap, which are too few with one.
+            compare_writing(ours, r, schedule, told(schedule), file_length(count, sizes, 0), compare)
+    compare.must_meet("ok", 11, "with a gap", "without a gap")
 
 
 def other_numbers(chain_count):
@@ -490,27 +599,41 @@ def schedules(ours, r, factor, compare):
         chain_count = i % 7
         sizes = inputs.some_sizes(r, chain_count)
         tasks, chains = inputs.schedule(r, r.choice([1, 2, 3, 5, r.randint(1, 32), 32]), sizes)
-        schedule = inputs.lent_schedule(r, tasks, chains)
+        gap = r.choice(inputs.FAULTY_GAPS) if r.random() < 0.1 else inputs.file_gap(r)
+        schedule = inputs.lent_schedule(r, tasks, chains, gap)
         said = told(schedule)
-        compare_writing(ours, r, schedule, said, r.choice([*lent_sizes(r, file_length(len(tasks), sizes)), 900]), compare)
+        compare_writing(ours, r, schedule, said, r.choice([*lent_sizes(r, file_length(len(tasks), sizes, gap)), 900]), compare)
         compare_choosing(ours, schedule, said, range(1, chain_count + 1), compare)
         compare_choosing(ours, schedule, said, r.sample(other_numbers(chain_count), 3), compare)
         if not 1 <= chain_count <= inputs.MOST_CHAINS:
             compare_refused(ours, r, schedule, r.choice([0, 900]), compare)
-    compare.must_meet("ok", 8, 11, 16)
+    compare.must_meet("ok", OF_GAP, 8, 11, 16, "with a gap", "without a gap")
 
 
 @group
 def schedules_refused(ours, r, factor, compare):
-    """schedules refused, by writing, choosing and bookings: counts, tasks, each chain, several faults"""
+    """schedules refused, by writing, choosing and bookings: counts, tasks, the gap, each chain, several faults"""
     for i in range(max(1, int(9 * factor))):
         sizes = [12] * 4 if i == 0 else inputs.some_sizes(r, i % 4 + 1)
-        tasks, chains = inputs.schedule(r, 32 if i == 0 else r.randint(1, 4), sizes)
-        schedule, length = inputs.lent_schedule(r, tasks, chains), file_length(len(tasks), sizes)
+        (tasks, chains), gap = inputs.schedule(r, 32 if i == 0 else r.randint(1, 4), sizes), inputs.file_gap(r)
+        schedule, length = inputs.lent_schedule(r, tasks, chains, gap), file_length(len(tasks), sizes, gap)
         count, past = schedule.count, schedule.tasks[4 * len(tasks):]
         for faulty in inputs.faulty_tasks(tasks):
             compare_refused(ours, r, schedule._replace(tasks=inputs.flat(faulty) + past), r.choice(lent_sizes(r, length)), compare)
         compare.must_meet(5)
+        # The gap alone, then after a fault of a task and of a count, then before one of a chain.
+        for gap in inputs.FAULTY_GAPS:
+            compare_refused(ours, r, schedule._replace(gap=gap), r.choice(lent_sizes(r, length)), compare)
+        compare.must_meet(OF_GAP)
+        for gap in inputs.FAULTY_GAPS:
+            compare_refused(ours, r, schedule._replace(gap=gap, tasks=inputs.replaced(schedule.tasks, 4 * r.randrange(count) + 1, 0)), length, compare)
+        compare.must_meet(5)
+        for gap in inputs.FAULTY_GAPS:
+            compare_refused(ours, r, schedule._replace(gap=gap, count=r.choice([0, 33])), length, compare)
+        compare.must_meet(8)
+        for gap in inputs.FAULTY_GAPS:
+            compare_refused(ours, r, schedule._replace(gap=gap, chains=inputs.replaced(schedule.chains, 0, 0)), length, compare)
+        compare.must_meet(OF_GAP)
         for c, chain in enumerate(chains):
             for place, number in inputs.faulty_chain(r, tasks, chain, past[::4]):
                 strange = inputs.replaced(schedule.chains, library.CHAIN * c + place, number)
@@ -530,8 +653,8 @@ def schedules_refused(ours, r, factor, compare):
             compare.must_meet(8)
     for _ in range(int(3000 * factor)):
         schedule = inputs.several_faults(r)
-        compare_refused(ours, r, schedule, r.choice([0, r.randint(0, 692), 692, 700]), compare)
-    compare.must_meet("ok", 8, 5, 6, 11)
+        compare_refused(ours, r, schedule, r.choice([0, r.randint(0, 698), 698, 700]), compare)
+    compare.must_meet("ok", 8, 5, OF_GAP, 6, 11)
 
 
 def cut_short(r, schedule):
@@ -555,7 +678,7 @@ def cut_short(r, schedule):
     ):
         behind = schedule._replace(lengths=lengths)
         yield behind
-        yield library.Schedule(*[part[:length] if isinstance(part, list) else part for part, length in zip(schedule[:5], (lengths[0], None, lengths[1], lengths[2], None))])
+        yield schedule._replace(tasks=schedule.tasks[:lengths[0]], chains=schedule.chains[:lengths[1]], places=schedule.places[:lengths[2]])
     # One to three numbers more than whole tasks.
     yield schedule._replace(tasks=schedule.tasks + [r.randint(1, 9) for _ in range(r.choice([1, 2, 3, 5]))])
 
@@ -575,8 +698,10 @@ def lists_of_schedules(ours, r, factor, compare):
     eight = ("refused", 8, 0)
     for _ in range(int(200 * factor)):
         tasks, chains = inputs.any_schedule(r)
-        schedule, out = inputs.lent_schedule(r, tasks, chains), r.randbytes(r.choice([0, 700]))
+        schedule, out = inputs.lent_schedule(r, tasks, chains, inputs.file_gap(r)), r.randbytes(r.choice([0, 700]))
         for short in cut_short(r, schedule):
+            # 8 comes before a fault of the gap.
+            short = short._replace(gap=r.choice([schedule.gap, r.choice(inputs.FAULTY_GAPS)]))
             compare.same(reference.schedule_fault(*told(short)), eight, "lists", short)
             compare.same(ours.write_file(short, out), (eight, out), "lists", short)
             number = r.choice([1, len(chains), 0, library.LARGEST])
@@ -592,12 +717,12 @@ def lists_of_schedules(ours, r, factor, compare):
 # ---- Analyses from a schedule
 
 def analysed(ours, schedule, number, call, *arguments):
-    """An analysis of a chain of a schedule as C has it: the chain is chosen, and the call on chains takes what was given."""
+    """An analysis of a chain of a schedule as C has it: the chain is chosen, and the call on chains takes what was given, and the schedule's gap."""
     given = ours.chain_of_schedule(schedule, number)
     if given[0] != "ok":
         return given
     numbers = inputs.flat(given[1])
-    return call(numbers + [0] * (36 - len(numbers)), len(given[1]), *arguments)
+    return call(numbers + [0] * (36 - len(numbers)), len(given[1]), schedule.gap, *arguments)
 
 
 def analysed_chains(r):
@@ -605,20 +730,24 @@ def analysed_chains(r):
     chains = [inputs.cut_chain(r)[:8] for _ in range(r.randint(1, inputs.MOST_CHAINS))]
     if r.random() < 0.2:
         chains[r.randrange(len(chains))] = [(999983, 1, 0), (999979, 5, 3)]
-    return chains, inputs.lent_schedule(r, *inputs.numbered(r, chains))
+    gap = inputs.some_gap(r, *chains)
+    if gap and r.random() < 0.3:
+        chains = [inputs.tightened(r, chain, gap) for chain in chains]
+    return chains, inputs.lent_schedule(r, *inputs.numbered(r, chains), gap)
 
 
 def compare_analyses(ours, r, schedule, number, tasks, compare):
     """Every analysis of one chain of a schedule; `tasks` are those of the chain where the number is one."""
     said = *told(schedule), number
     warm = reference.warm_up_of(*said)
-    compare.meet(warm)
+    compare.meet_call(warm)
+    note_links(tasks, schedule.gap, warm, compare)
     compare.same(analysed(ours, schedule, number, ours.warm_up), padded(warm), "warm-up", schedule, number)
     x0, h = warm[2:] if warm[0] == "ok" else (0, 12)
     for t in inputs.ticks_around(r, [x0, x0 + h], 4):
         compare.same(analysed(ours, schedule, number, ours.delay, t), reference.delay_of(*said, t), "delay", schedule, number, t)
         compare.same(analysed(ours, schedule, number, ours.age, t), reference.age_of(*said, t), "age", schedule, number, t)
-    b, k = r.choice(window_bounds(r, tasks, warm)), r.choice([0, 1, 2, r.randint(3, 100), 101])
+    b, k = r.choice(window_bounds(r, tasks, schedule.gap, warm)), r.choice([0, 1, 2, r.randint(3, 100), 101])
     compare.same(analysed(ours, schedule, number, ours.windows, b, k), reference.windows_of(*said, b, k), "windows", schedule, number, b, k)
     p, size = r.randint(0, len(tasks) + 1), r.choice([0, 1, 3, 60, 60])
     starts, latencies = inputs.lent_lists(r, size, size)
@@ -642,15 +771,16 @@ def chosen_chains(ours, r, factor, compare):
             compare_analyses(ours, r, schedule, number, tasks, compare)
         compare_analyses(ours, r, schedule, r.choice(other_numbers(len(chains))), chains[0], compare)
         if i % 4 == 0:
-            # A fault in any task, or in any chain, is one of every chain.
+            # A fault in any task, in any chain or of the gap is one of every chain.
             c = r.randrange(len(chains))
             faulty = r.choice([
                 schedule._replace(tasks=inputs.replaced(schedule.tasks, 4 * r.randrange(schedule.count) + 1, 0)),
                 schedule._replace(chains=inputs.replaced(schedule.chains, library.CHAIN * c, 0)),
                 schedule._replace(places=inputs.replaced(schedule.places, c, 13)),
+                schedule._replace(gap=r.choice(inputs.FAULTY_GAPS)),
             ])
             compare_analyses(ours, r, faulty, r.choice([1, len(chains), 0, 9]), chains[0], compare)
-    compare.must_meet("ok", 5, 6, 7, 8, 16)
+    compare.must_meet("ok", 5, OF_GAP, 6, 7, 8, 16, *LINKS)
 
 
 # ---- Two chains side by side
@@ -658,7 +788,7 @@ def chosen_chains(ours, r, factor, compare):
 def compare_bookings(ours, schedule, first, second, t, compare):
     """One press and two chains of a schedule: its figures, also as those of the two delays, and the same with the numbers changed about."""
     theirs = reference.bookings_of(*told(schedule), first, second, t)
-    compare.meet(theirs)
+    compare.meet_call(theirs)
     mine = ours.bookings(schedule, first, second, t)
     compare.same(mine, theirs, "bookings", schedule, first, second, t)
     if mine[0] == "ok":
@@ -674,6 +804,8 @@ def compare_pair(ours, r, schedule, first, second, count, compare):
     compare.same((one[0], two[0]), ("ok", "ok"), "accepted chains", schedule, first, second)
     if "refused" in (one[0], two[0]):
         return 0, 1
+    for number, warm in ((first, one), (second, two)):
+        note_links(reference.chain_of_schedule(*said, number)[1], schedule.gap, warm, compare)
     common = math.lcm(one[3], two[3])
     for t in inputs.pair_ticks(r, (one[2], two[2]), common, count):
         compare_bookings(ours, schedule, first, second, t, compare)
@@ -686,7 +818,11 @@ def bookings(ours, r, factor, compare):
     for i in range(int(500 * factor)):
         common = r.choice([1, 2, 6, 12, 12, 24, 30, 60, 60, 84, 120, 180])
         chains = [inputs.small_pair_chain(r, common) for _ in range(r.choice([1, 2, 2, 3, 4]))]
-        schedule = inputs.lent_schedule(r, *inputs.numbered(r, [chain[:32 // len(chains)] for chain in chains]))
+        chains = [chain[:32 // len(chains)] for chain in chains]
+        gap = inputs.some_gap(r, *chains)
+        if gap and r.random() < 0.3:
+            chains = [inputs.tightened(r, chain, gap) for chain in chains]
+        schedule = inputs.lent_schedule(r, *inputs.numbered(r, chains), gap)
         first, second = r.randint(1, len(chains)), r.randint(1, len(chains))
         warm, common = compare_pair(ours, r, schedule, first, second, 8, compare)
         here = ours.bookings(schedule, first, second, warm)
@@ -697,7 +833,7 @@ def bookings(ours, r, factor, compare):
             # The greatest difference is that of some press of one common hyperperiod, and no press of the next one has more.
             apart = [ours.bookings(schedule, first, second, t)[3:4] for t in range(warm, warm + 2 * common)]
             compare.same((max(apart[:common]), max(apart)), (here[4:], here[4:]), "greatest difference", schedule, first, second)
-    compare.must_meet("ok", 12, 13)
+    compare.must_meet("ok", 12, 13, *LINKS)
 
 
 def quick_pair(one, two):
@@ -715,17 +851,20 @@ def wide_bookings(ours, r, factor, compare):
         one, two = inputs.wide_pair_chain(r), inputs.wide_pair_chain(r)
         if quick_pair(one, two):
             made += 1
-            schedule = inputs.lent_schedule(r, *inputs.numbered(r, [one, two]))
+            gap = inputs.some_gap(r, one, two)
+            if gap and made % 2:
+                one, two = inputs.tightened(r, one, gap), inputs.tightened(r, two, gap)
+            schedule = inputs.lent_schedule(r, *inputs.numbered(r, [one, two]), gap)
             compare_pair(ours, r, schedule, *r.choice([(1, 2), (2, 1)]), 6, compare)
-    compare.must_meet("ok", 12, 13)
+    compare.must_meet("ok", 12, 13, *LINKS)
     for common in (19998, 20000, 20002):
         one, two = ([(d, r.randint(1, 3 * d), r.randint(0, 3 * d)) for d in (r.choice([2, common // 2]), r.choice([1, common]))] for _ in range(2))
-        schedule = inputs.lent_schedule(r, *inputs.numbered(r, [one, [(common, 5, r.randint(0, 99))] + two]))
+        schedule = inputs.lent_schedule(r, *inputs.numbered(r, [one, [(common, 5, r.randint(0, 99))] + two]), inputs.some_gap(r, one))
         compare_pair(ours, r, schedule, 1, 2, 5, compare)
     found = set()
     for periods in inputs.COMMON * max(1, int(2 * factor)):
         one, two = inputs.common_pair(r, periods)
-        schedule = inputs.lent_schedule(r, *inputs.numbered(r, [one, two]))
+        schedule = inputs.lent_schedule(r, *inputs.numbered(r, [one, two]), inputs.some_gap(r, one, two))
         found.add(compare_pair(ours, r, schedule, 1, 2, 4, compare)[1] - inputs.MOST_HYPER)
     compare.must_meet("ok", 7)
     compare.same((0 in found, min(found) < 0 < max(found)), (True, True), "common hyperperiods at the limit, below and above")
@@ -734,10 +873,11 @@ def wide_bookings(ours, r, factor, compare):
 @group
 def bookings_refused(ours, r, factor, compare):
     """bookings refused: every two of numbers in the schedule and not, faults of the schedule, of either chain and of both, ticks too early and too late"""
-    # Accepted; above the limit alone; above it beside the first; accepted, from tick 63 on.
+    # Accepted; above the limit alone; above it beside the first; accepted, from tick 63 on, where the gap is at most 3.
     chains = [[(7, 1, 3)], [(999983, 1, 0), (999979, 1, 0)], [(768, 1, 0), (78125, 1, 0)], [(7, 2, 0), (7, 1, 68)]]
     for _ in range(max(1, int(2 * factor))):
-        schedule = inputs.lent_schedule(r, *inputs.numbered(r, chains))
+        schedule = inputs.lent_schedule(r, *inputs.numbered(r, chains), r.choice([0, 1, 3]))
+        beyond = r.choice(inputs.FAULTY_GAPS)
         faulty = [
             schedule,
             schedule._replace(count=0),
@@ -747,12 +887,16 @@ def bookings_refused(ours, r, factor, compare):
             schedule._replace(chains=inputs.replaced(schedule.chains, 36, 0)),
             schedule._replace(tasks=inputs.replaced(schedule.tasks, 1, 0), chains=inputs.replaced(schedule.chains, 0, 0)),
             schedule._replace(chain_count=0, tasks=inputs.replaced(schedule.tasks, 1, 0)),
+            schedule._replace(gap=beyond),
+            schedule._replace(gap=beyond, chains=inputs.replaced(schedule.chains, 36, 0)),
+            schedule._replace(gap=beyond, tasks=inputs.replaced(schedule.tasks, 4 * schedule.count - 2, 0)),
+            schedule._replace(gap=4),
         ]
         numbers = [0, 1, 2, 3, 4, 5, library.LARGEST]
         for lent, first, second in itertools.product(faulty, numbers, numbers):
             for t in r.sample([0, 2, 3, 62, 63, inputs.UPPER, inputs.UPPER + 1, library.LARGEST], 4):
                 compare_bookings(ours, lent, first, second, t, compare)
-        compare.must_meet("ok", 5, 6, 7, 8, 12, 13, 16)
+        compare.must_meet("ok", 5, OF_GAP, 6, 7, 8, 12, 13, 16)
 
 
 def outcome(job):
@@ -776,7 +920,7 @@ def main():
         for run, (made, wrong, first, met, took) in zip(GROUPS, found):
             print(f"{run.__doc__.strip()}: {made} comparisons, {wrong} disagree ({took:.1f} s)")
             if met:
-                print("  the reference's answers: " + ", ".join(f"{answer} {times}" for answer, times in sorted(met.items(), key=str)))
+                print("  met: " + ", ".join(f"{answer} {times}" for answer, times in sorted(met.items(), key=str)))
             for about, mine, other in first:
                 print(f"  {about}: the program says {mine}, the reference {other}")
             # A group that compares nothing shows nothing.

@@ -70,6 +70,54 @@ def any_chain(r):
     return [small_task(r) for _ in range(r.choice([0, 13, 13, 14, 40]))]
 
 
+# Gaps of a chain or a schedule.
+
+MOST_GAP = 1000
+# Those that are refused; some would pass with fewer bits.
+FAULTY_GAPS = [MOST_GAP + 1, MOST_GAP + 1, MOST_GAP + 2, 2**16, 2**16 + 1, 2**32, 2**32 + 1, 2**63, 2**63 + MOST_GAP, LARGEST]
+
+
+def deciding_gap(r, tasks):
+    """A gap with which a link just fits, for some of its jobs, or just misses. A read of one place less a write of the place before always leaves the
+    same rest by the common divisor of their periods; a gap with that rest makes the two ticks equal for some jobs."""
+    i = r.randrange(len(tasks) - 1)
+    (t, d, f), (following, _, phase) = tasks[i:i + 2]
+    step = math.gcd(t, following) or 1
+    fits = (phase - f - d) % step + step * r.choice([0, 0, 1, r.randint(0, 9)])
+    return min(max(1, fits + r.choice([0, 1])), MOST_GAP)
+
+
+def tightened(r, tasks, gap):
+    """The chain with other phases: most places have a job that reads just when one of the place before becomes readable, or a tick earlier. What is outside
+    its limits stays so."""
+    tight = tasks[:1]
+    for following, duration, phase in tasks[1:]:
+        _, d, f = tight[-1]
+        if following and phase <= 1000000 and r.random() < 0.8:
+            phase = (f + d + gap - r.choice([0, 1])) % following
+        tight.append((following, duration, phase))
+    return tight
+
+
+def some_gap(r, *chains):
+    """A permitted gap for these chains."""
+    tasks = r.choice(chains)
+    if len(tasks) > 1 and r.random() < 0.3:
+        return deciding_gap(r, tasks)
+    return r.choice([0, 0, 0, 1, 2, MOST_GAP - 1, MOST_GAP, r.randint(1, MOST_GAP), r.randint(1, 20)])
+
+
+def linked(r, tasks):
+    """The chain, sometimes with phases for its gap, and a permitted gap, sometimes one for its phases."""
+    gap = some_gap(r, tasks)
+    return (tightened(r, tasks, gap) if gap and r.random() < 0.3 else tasks), gap
+
+
+def any_linked(r, tasks):
+    """The same, sometimes with a gap that is refused."""
+    return (tasks, r.choice(FAULTY_GAPS)) if r.random() < 0.15 else linked(r, tasks)
+
+
 def flat(tasks):
     return [value for task in tasks for value in task]
 
@@ -93,7 +141,7 @@ def ticks_around(r, middles, count):
 # Tables: two lists, the anchor count g and the hyperperiod h.
 
 MOST_HYPER = 60000000
-MOST_LATENCY = 60000000
+MOST_LATENCY = 60011000
 MOST_FIRST = 1000000000
 
 
@@ -112,7 +160,9 @@ def distance(starts, h, i):
 
 
 def latency_above(r, d):
-    return r.choice([d + 1, min(d + r.randint(1, 20), MOST_LATENCY), min(d + r.randint(1, 20), MOST_LATENCY), r.randint(d + 1, MOST_LATENCY), MOST_LATENCY])
+    """A latency above that distance: near it, at the limit, and around the 60,000,000 that were the limit without a gap."""
+    some = [d + 1, d + r.randint(1, 20), d + r.randint(1, 20), r.randint(d + 1, MOST_LATENCY), MOST_LATENCY, MOST_LATENCY, MOST_HYPER + r.choice([0, 1])]
+    return r.choice([v for v in some if d < v <= MOST_LATENCY])
 
 
 def spread_table(r, g, h, first):
@@ -310,9 +360,9 @@ def lent_lists(r, n, m):
     return [r.randint(0, LARGEST) for _ in range(n)], [r.randint(0, LARGEST) for _ in range(m)]
 
 
-# Schedules: tasks (number, T, D, F) and chains, each a list of task numbers. Files: records of length, kind and body, little-endian.
+# Schedules: tasks (number, T, D, F), chains, each a list of task numbers, and a gap. Files: records of length, kind and body, little-endian.
 
-TASK, CHAIN, END = 1, 2, 3
+TASK, CHAIN, END, GAP = 1, 2, 3, 4
 # The greatest task number is also the most that a length or a kind can be.
 MOST_TASKS, MOST_CHAINS, MOST_PLACES, MOST_NUMBER = 32, 4, 12, 65535
 # The least and the greatest of each value of a task, by its position among number, T, D, F.
@@ -320,7 +370,7 @@ LIMITS = {0: (1, MOST_NUMBER), 1: (1, 1000000), 2: (1, 4000000), 3: (0, 1000000)
 
 
 def rising(r, count):
-    """Strictly rising task numbers: without gaps from 1 or up to 65,535, with small gaps, or any."""
+    """Strictly rising task numbers: one after another from 1 or up to 65,535, with some left out, or any."""
     draw = r.random()
     if draw < 0.2:
         return list(range(1, count + 1))
@@ -370,11 +420,23 @@ def chain_record(numbers):
     return record(CHAIN, struct.pack(f"<{len(numbers)}H", *numbers))
 
 
+def gap_record(value):
+    return record(GAP, struct.pack("<H", value))
+
+
 END_RECORD = record(END, b"")
+# Values of a gap record that are accepted, at the ends of the limits and of a byte, and values that are not.
+GAP_VALUES, OTHER_VALUES = [1, 2, 255, 256, 257, MOST_GAP - 1, MOST_GAP], [0, MOST_GAP + 1, 1024, 2**15, MOST_NUMBER]
 
 
-def records(tasks, chains):
-    return [*[task_record(*task) for task in tasks], *[chain_record(chain) for chain in chains], END_RECORD]
+def file_gap(r):
+    """The gap of a file: none as often as one."""
+    return r.choice([0, r.choice([*GAP_VALUES, r.randint(1, MOST_GAP)])])
+
+
+def records(tasks, chains, gap):
+    """The records of a file. A gap of 0 has none."""
+    return [*[task_record(*task) for task in tasks], *[chain_record(chain) for chain in chains], *([gap_record(gap)] if gap else []), END_RECORD]
 
 
 def joined(parts):
@@ -401,11 +463,12 @@ def swapped(r, parts):
 
 
 def inserted(r, parts):
-    """Before each record and last: each record of the file, a task that rises on, one that does not, other chains, other kinds."""
+    """Before each record and last: each record of the file, a task that rises on, one that does not, other chains, gaps, other kinds."""
     last = max(number for kind, number in (struct.unpack_from("<HH", part, 2) for part in parts[:-1]) if kind == TASK)
     rising_on = [task_record(number, 1, 1, 0) for number in {1, last, min(last + 1, MOST_NUMBER), MOST_NUMBER}]
-    others = [chain_record([last]), chain_record([0]), chain_record([]), record(0, b""), record(4, b""), record(END, b"x")]
-    others.append(record(r.randint(4, MOST_NUMBER), r.randbytes(r.randint(0, 20))))
+    others = [chain_record([last]), chain_record([0]), chain_record([]), record(0, b""), record(5, b""), record(END, b"x")]
+    others += [gap_record(r.choice(GAP_VALUES)), gap_record(r.choice(OTHER_VALUES)), record(GAP, b""), record(GAP, r.randbytes(r.choice([1, 3, 4])))]
+    others.append(record(r.randint(5, MOST_NUMBER), r.randbytes(r.randint(0, 20))))
     for i in range(len(parts) + 1):
         for extra in [*parts, *rising_on, *others]:
             yield joined([*parts[:i], extra, *parts[i:]])
@@ -427,9 +490,11 @@ def other_kinds(r, parts):
     """A record of every kind and every length up to 40, before each record and last: with the rest after it, and cut by a byte as the last."""
     for i in range(len(parts) + 1):
         before, after = joined(parts[:i]), joined(parts[i:])
-        for kind in (0, TASK, CHAIN, END, 4, 256 + TASK, 256 * CHAIN, MOST_NUMBER):
+        for kind in (0, TASK, CHAIN, END, GAP, 5, 256 + TASK, 256 * CHAIN, MOST_NUMBER):
             for length in range(41):
-                extra = record(kind, r.randbytes(max(0, length - 4)), length)
+                # A gap of two random bytes is seldom one.
+                body = gap_record(r.choice(GAP_VALUES))[4:] if (kind, length) == (GAP, 6) else r.randbytes(max(0, length - 4))
+                extra = record(kind, body, length)
                 yield before + extra + after
                 yield before + extra[:-1]
 
@@ -456,9 +521,9 @@ RECORD_DAMAGES = {
 }
 
 
-def turns(r, most):
-    """Every row of up to so many records, each a task, a chain or the end; the chains have tasks of before."""
-    for kinds in itertools.chain(*[itertools.product((TASK, CHAIN, END), repeat=n) for n in range(most + 1)]):
+def turns(r, kinds_of, most):
+    """Every row of up to so many records of these kinds; the chains have tasks of before."""
+    for kinds in itertools.chain(*[itertools.product(kinds_of, repeat=n) for n in range(most + 1)]):
         parts, numbers = [], []
         for kind in kinds:
             if kind == TASK:
@@ -466,9 +531,28 @@ def turns(r, most):
                 parts.append(task_record(numbers[-1], *small_task(r)))
             elif kind == CHAIN:
                 parts.append(chain_record([r.choice(numbers or [1]) for _ in range(r.choice([1, 1, 2, 12]))]))
+            elif kind == GAP:
+                parts.append(gap_record(r.choice([*GAP_VALUES, *GAP_VALUES, *OTHER_VALUES])))
             else:
                 parts.append(END_RECORD)
         yield joined(parts)
+
+
+def gap_files(r):
+    """A record of kind 4 after every beginning of a file, with each value and length, whole and cut by a byte; after it the rest of the file, nothing, or
+    another record."""
+    tasks, chains = schedule(r, 32, some_sizes(r, MOST_CHAINS))
+    two = records(tasks[:2], [[tasks[0][0]]], 0)
+    whole, known = records(tasks, chains, MOST_GAP), [tasks[0][0]]
+    # Nothing, one task, two, all; then with one chain to four, and with a gap after the chains.
+    beginnings = [[], two[:1], two[:2], whole[:32], two[:3], *[whole[:32 + n] for n in range(1, MOST_CHAINS + 1)], [*two[:3], gap_record(7)], whole[:-1], whole]
+    endings = [[END_RECORD], [], [chain_record(known), END_RECORD], [chain_record([0])], [task_record(MOST_NUMBER, 1, 1, 0)], [gap_record(3), END_RECORD], [gap_record(0)], [END_RECORD, END_RECORD]]
+    for beginning, value in itertools.product(beginnings, [0, 1, r.choice(GAP_VALUES), MOST_GAP, MOST_GAP + 1, r.choice(OTHER_VALUES), MOST_NUMBER]):
+        for length in (4, 5, 6, 7, 8):
+            extra = record(GAP, struct.pack("<HH", value, 0)[:length - 4], length)
+            yield joined([*beginning, extra[:-1]])
+            for ending in endings if length == 6 else r.sample(endings, 2):
+                yield joined([*beginning, extra, *ending])
 
 
 # Values at and past their limits.
@@ -487,14 +571,14 @@ def with_value(tasks, i, field, value):
     return [*tasks[:i], tuple(task), *tasks[i + 1:]]
 
 
-def edge_files(r, tasks, chains):
+def edge_files(r, tasks, chains, gap):
     """Each value of each task at and past its limits; each number equal to the one before and after, below, above."""
     for i in range(len(tasks)):
         for field in LIMITS:
             for value in edge_values(field):
-                yield joined(records(with_value(tasks, i, field, value), chains))
+                yield joined(records(with_value(tasks, i, field, value), chains, gap))
         for number in {tasks[max(0, i - 1)][0], tasks[i][0] - 1, tasks[0][0], tasks[-1][0], tasks[min(i + 1, len(tasks) - 1)][0]}:
-            yield joined(records(with_value(tasks, i, 0, number), chains))
+            yield joined(records(with_value(tasks, i, 0, number), chains, gap))
 
 
 def unknown(r, tasks):
@@ -506,15 +590,15 @@ def unknown(r, tasks):
 
 def unknown_files(r, tasks, chains, c):
     """Of chain c: an unknown task at each place, at two places and at all; the chain with 0 and 13 places. The same with a fault in a chain after it."""
-    chain, parts = chains[c], records(tasks, chains)
-    at, last = len(tasks) + c, len(parts) - 2
+    chain, parts = chains[c], records(tasks, chains, file_gap(r))
+    at, last = len(tasks) + c, len(tasks) + len(chains) - 1
     for i in range(len(chain)):
         strange = [*chain[:i], unknown(r, tasks), *chain[i + 1:]]
         yield joined([*parts[:at], chain_record(strange), *parts[at + 1:]])
         strange[r.randrange(len(chain))] = unknown(r, tasks)
         yield joined([*parts[:at], chain_record(strange), *parts[at + 1:]])
         if at < last:
-            yield joined([*parts[:at], chain_record(strange), *parts[at + 1:last], chain_record(r.choice([[], [unknown(r, tasks)]])), END_RECORD])
+            yield joined([*parts[:at], chain_record(strange), *parts[at + 1:last], chain_record(r.choice([[], [unknown(r, tasks)]])), *parts[last + 1:]])
     for numbers in ([unknown(r, tasks)] * len(chain), [], (chain * 13)[:13], (chain * 13)[:12] + [unknown(r, tasks)], (chain * 14)[:14]):
         yield joined([*parts[:at], chain_record(numbers), *parts[at + 1:]])
 
@@ -522,13 +606,15 @@ def unknown_files(r, tasks, chains, c):
 def many_tasks(r, count):
     """A file of more than 32 tasks: the 33rd is right but for that, or has another fault too, or the file ends there."""
     tasks, chains = schedule(r, count, some_sizes(r, r.randint(1, MOST_CHAINS)))
-    parts = records(tasks, chains)
+    parts = records(tasks, chains, file_gap(r))
     yield joined(parts)
     for i, fault in ((32, (0, 1, 1, 0)), (32, (tasks[0][0], 1, 1, 0)), (32, (MOST_NUMBER, 0, 1, 0)), (31, (0, 1, 1, 0))):
         yield joined([*parts[:i], task_record(*fault), *parts[i + 1:]])
     yield joined([*parts[:32], parts[32][:17]])
     yield joined([*parts[:32], record(TASK, parts[32][4:], 19), *parts[33:]])
-    yield joined([*parts[:32], record(4, parts[32][4:]), *parts[33:]])
+    yield joined([*parts[:32], record(5, parts[32][4:]), *parts[33:]])
+    yield joined([*parts[:32], record(GAP, parts[32][4:]), *parts[33:]])
+    yield joined([*parts[:32], gap_record(r.choice([0, 1])), *parts[33:]])
     yield joined(parts[:33])
 
 
@@ -537,17 +623,18 @@ def faults_of_order(r):
     the tests decides which fault is told."""
     tasks, chains = schedule(r, 32, [3, 1, 2, 1])
     known, strange = tasks[0][0], unknown(r, tasks)
-    one, two, all_tasks = records(tasks[:1], [[known]] * 4), records(tasks[:2], [[known]]), records(tasks, chains)
-    # Nothing, one task, two, all; then with one chain, three and four, and a whole file.
-    beginnings = [[], one[:1], two[:2], all_tasks[:32], one[:2], one[:4], one[:5], all_tasks[:33], all_tasks[:36], two]
+    one, two, all_tasks = records(tasks[:1], [[known]] * 4, 5), records(tasks[:2], [[known]], 0), records(tasks, chains, MOST_GAP)
+    # Nothing, one task, two, all; then with one chain, three and four, those also with a gap, and a whole file.
+    beginnings = [[], one[:1], two[:2], all_tasks[:32], one[:2], one[:4], one[:5], one[:6], all_tasks[:33], all_tasks[:36], all_tasks[:37], two]
     faulty = [(0, 1, 1, 0), (MOST_NUMBER, 0, 1, 0), (MOST_NUMBER, 1, 0, 0), (MOST_NUMBER, 1, 1, 1000001), (0, 0, 0, 2**32 - 1)]
     bodies = [task_record(*task)[4:] for task in [tasks[2], tasks[0], *faulty]]
     bodies += [chain_record(numbers)[4:] for numbers in ([known], [strange], [known, strange], [strange] * 12, [strange] * 13, [])]
-    for beginning, kind, body in itertools.product(beginnings, (0, TASK, CHAIN, END, 4), bodies):
+    bodies += [gap_record(value)[4:] for value in (0, 1, MOST_GAP, MOST_GAP + 1)]
+    for beginning, kind, body in itertools.product(beginnings, (0, TASK, CHAIN, END, GAP), bodies):
         for length in {0, 3, 4, 5, 6, 18, len(body) + 3, len(body) + 4, len(body) + 5, MOST_NUMBER}:
             start = joined(beginning) + record(kind, body, length)
             yield start
-            yield start + joined(records(tasks[2:3], [[tasks[2][0]]]))
+            yield start + joined(records(tasks[2:3], [[tasks[2][0]]], 0))
 
 
 # Bytes that were never a file.
@@ -571,14 +658,16 @@ def random_records(r):
         elif draw < 0.9:
             for _ in range(r.choice([1, 1, 2, 3, 4, 5])):
                 parts.append(chain_record([r.randint(1, number + 1) if r.random() < 0.03 else number for _ in range(r.randint(1, 12))]))
+            if r.random() < 0.4:
+                parts.append(gap_record(r.choice(GAP_VALUES) if r.random() < 0.9 else r.choice(OTHER_VALUES)))
             if r.random() < 0.7:
                 parts.append(END_RECORD)
                 if r.random() < 0.8:
                     break
         elif draw < 0.93:
-            parts.append(END_RECORD)
+            parts.append(r.choice([END_RECORD, END_RECORD, gap_record(r.choice(GAP_VALUES))]))
         else:
-            parts.append(record(r.choice([0, 4, r.randint(0, MOST_NUMBER)]), r.randbytes(r.choice([0, 1, 14, r.randint(0, 4000)]))))
+            parts.append(record(r.choice([0, GAP, 5, r.randint(0, MOST_NUMBER)]), r.randbytes(r.choice([0, 1, 14, r.randint(0, 4000)]))))
     return joined(parts)[:5000]
 
 
@@ -589,7 +678,7 @@ def past_tasks(r, tasks):
     return [r.choice([tuple(any_number(r) for _ in range(4)), (min(tasks[-1][0] + 1 + i, MOST_NUMBER), 1, 1, 0)]) for i in range(r.choice([0, 1, 2, 31, 40]))]
 
 
-def lent_schedule(r, tasks, chains):
+def lent_schedule(r, tasks, chains, gap):
     """A schedule as it is lent to C, with rubbish past its tasks, past the places of each chain and past the chains; sometimes in lists of chains and places that just
     hold it."""
     numbers = [r.choice([any_number(r), tasks[0][0]]) for _ in range(ENTRIES * len(chains) + r.choice([0, 1, 2, 11, 20]))]
@@ -598,7 +687,7 @@ def lent_schedule(r, tasks, chains):
         numbers[ENTRIES * c:ENTRIES * c + len(chain)] = chain
     if chains and r.random() < 0.3:
         del numbers[ENTRIES * (len(chains) - 1) + len(chains[-1]):], places[len(chains):]
-    return Schedule(flat(tasks + past_tasks(r, tasks)), len(tasks), numbers, places, len(chains))
+    return Schedule(flat(tasks + past_tasks(r, tasks)), len(tasks), numbers, places, len(chains), gap)
 
 
 def replaced(numbers, at, value):
@@ -637,7 +726,7 @@ MANY = [2**16, 2**32, 2**63]
 
 
 def several_faults(r):
-    """A lent schedule with several faults, or none: in its tasks, in its chains, in its counts, in the lengths of its lists."""
+    """A lent schedule with several faults, or none: in its tasks, in its gap, in its chains, in its counts, in the lengths of its lists."""
     tasks, chains = any_schedule(r)
     known = chains[0][0]
     for _ in range(r.choice([0, 0, 1, 2, 3])):
@@ -646,7 +735,7 @@ def several_faults(r):
     for _ in range(r.choice([0, 0, 1, 2])):
         chain = r.choice(chains)
         chain[r.randrange(len(chain))] = r.choice([0, MOST_NUMBER, any_number(r), 2**32 + known])
-    lent = lent_schedule(r, tasks, chains)
+    lent = lent_schedule(r, tasks, chains, r.choice(FAULTY_GAPS) if r.random() < 0.2 else file_gap(r))
     if r.random() < 0.1:
         lent = lent._replace(count=r.choice([0, 33, LARGEST, r.choice(MANY) + lent.count]))
     if r.random() < 0.1:

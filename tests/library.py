@@ -53,12 +53,13 @@ class Schedule(typing.NamedTuple):
     chains: list  # the task numbers of chain c, from 0, stand from entry 12 c on
     places: list  # of each chain
     chain_count: int
+    gap: int
     lengths: tuple = (None, None, None)  # of the three lists, where they are lent as shorter ones
 
     def arguments(self):
         """The first arguments of every call on a schedule."""
         tasks, chains, places = map(words, (self.tasks, self.chains, self.places), self.lengths)
-        return (*tasks, SIZE(self.count), *chains, *places, SIZE(self.chain_count))
+        return (*tasks, SIZE(self.count), *chains, *places, SIZE(self.chain_count), U64(self.gap))
 
     def kept(self, arguments):
         """Whether the lists are still as they were lent."""
@@ -93,33 +94,35 @@ class Library:
     def one(self, call, *arguments):
         return self.numbers(call, 1, *arguments)
 
-    def check(self, flat, places):
-        return self.one(self.c.mo_check, *words(flat), SIZE(places))
+    # The calls on a lent chain: a flat list, the number of places and the gap.
 
-    def delay(self, flat, places, t):
-        return self.one(self.c.mo_delay, *words(flat), SIZE(places), U64(t))
+    def check(self, flat, places, gap):
+        return self.one(self.c.mo_check, *words(flat), SIZE(places), U64(gap))
 
-    def age(self, flat, places, z):
-        return self.one(self.c.mo_age, *words(flat), SIZE(places), U64(z))
+    def delay(self, flat, places, gap, t):
+        return self.one(self.c.mo_delay, *words(flat), SIZE(places), U64(gap), U64(t))
 
-    def windows(self, flat, places, b, k):
-        return self.numbers(self.c.mo_windows, 2, *words(flat), SIZE(places), U64(b), U64(k))
+    def age(self, flat, places, gap, z):
+        return self.one(self.c.mo_age, *words(flat), SIZE(places), U64(gap), U64(z))
 
-    def warm_up(self, flat, places):
+    def windows(self, flat, places, gap, b, k):
+        return self.numbers(self.c.mo_windows, 2, *words(flat), SIZE(places), U64(gap), U64(b), U64(k))
+
+    def warm_up(self, flat, places, gap):
         jobs, tick, hyper = (U64 * 12)(*[77] * 12), U64(78), U64(79)
-        code = self.c.mo_warm_up(*words(flat), SIZE(places), jobs, ctypes.byref(tick), ctypes.byref(hyper))
+        code = self.c.mo_warm_up(*words(flat), SIZE(places), U64(gap), jobs, ctypes.byref(tick), ctypes.byref(hyper))
         if code == 0:
             return ("ok", list(jobs), tick.value, hyper.value)
         if list(jobs) == [0] * 12 and tick.value == 0 and hyper.value == 0:
             return refusal(code)
         return ("left", code, list(jobs), tick.value, hyper.value)
 
-    def make(self, flat, places, p, starts, latencies):
+    def make(self, flat, places, gap, p, starts, latencies):
         """Making, and what the two lists hold after it."""
         first, n = words(starts)
         second, m = words(latencies)
         figures = (U64 * 4)(*[RUBBISH] * 4)
-        code = self.c.mo_make_table(*words(flat), SIZE(places), SIZE(p), first, n, second, m, figures)
+        code = self.c.mo_make_table(*words(flat), SIZE(places), U64(gap), SIZE(p), first, n, second, m, figures)
         if code == 0:
             answer = ("ok", *figures)
         elif code == 11:
@@ -159,22 +162,23 @@ class Library:
         """Reading a file: the code, and what the four arrays hold after it. `past` lies in memory after the lent bytes, where a call that looks
         past them would find it. The bytes must stay as they were."""
         lent = ctypes.create_string_buffer(data + past + FENCE)
-        arrays = filled(128), filled(4 * CHAIN), filled(4), filled(2)
+        arrays = filled(128), filled(4 * CHAIN), filled(4), filled(3)
         code = self.c.mo_read_file(lent, SIZE(len(data)), *arrays)
         return ("changed" if lent.raw[:-1] != data + past + FENCE else code, *map(list, arrays))
 
     def read_file(self, data, past=b""):
         """Reading a file. A refusal must leave 0 in every entry, a success 0 in the entries past the counts."""
         found = self.read_file_as_lent(data, past)
-        code, tasks, chains, places, (count, chain_count) = found
+        code, tasks, chains, places, counts = found
         if code != 0:
-            return ("left", *found) if code == "changed" or count or chain_count or any(tasks) or any(chains) or any(places) else refusal(code)
+            return ("left", *found) if code == "changed" or any(tasks) or any(chains) or any(places) or any(counts) else refusal(code)
+        count, chain_count, gap = counts
         rows = [chains[i:i + CHAIN] for i in range(0, 4 * CHAIN, CHAIN)]
         if count > 32 or chain_count > 4 or any(n > CHAIN for n in places) or any(tasks[4 * count:]) or any(places[chain_count:]):
             return ("left", *found)
         if any(any(row[n:]) for row, n in zip(rows, places)):
             return ("left", *found)
-        return ("ok", [tuple(tasks[i:i + 4]) for i in range(0, 4 * count, 4)], [row[:n] for row, n in zip(rows, places)][:chain_count])
+        return ("ok", [tuple(tasks[i:i + 4]) for i in range(0, 4 * count, 4)], [row[:n] for row, n in zip(rows, places)][:chain_count], gap)
 
     def write_file(self, schedule, out):
         """Writing a file, and what the lent bytes hold after it. A refusal must leave them, and 0 for the length; no call may write past them or

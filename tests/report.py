@@ -75,14 +75,19 @@ def rightly_called(calls, r, data, text):
 
 # ---- files
 
-def records(tasks, chains):
-    """The records of a schedule: numbered tasks (number, T, D, F), and the task numbers of each chain."""
-    return [*[make.task_record(*task) for task in tasks], *[make.chain_record(chain) for chain in chains], make.END]
+def gap_record(value):
+    return make.record(4, make.number(value, 2))
+
+
+def records(tasks, chains, gap):
+    """The records of a schedule: numbered tasks (number, T, D, F), the task numbers of each chain, and the gap where it is not 0."""
+    return [*[make.task_record(*task) for task in tasks], *[make.chain_record(chain) for chain in chains], *([gap_record(gap)] if gap else []), make.END]
 
 
 def file_of(r, chains):
-    """The records of a schedule with these chains of (T, D, F)."""
-    return records(*inputs.numbered(r, chains))
+    """The records of a schedule with these chains of (T, D, F): without a gap, or with any, or with one that decides a link."""
+    gap = r.choice([inputs.file_gap(r), inputs.some_gap(r, *chains)])
+    return records(*inputs.numbered(r, chains), gap)
 
 
 def partitions(places):
@@ -111,6 +116,12 @@ def quick_chains(r, count):
             return chains
 
 
+def quick_file(read):
+    """Whether the reference is quick on every chain of a file that it read."""
+    task_of = {number: task for number, *task in read[1]}
+    return all(quick([task_of[number] for number in chain]) for chain in read[2])
+
+
 def beside(r, chain):
     """The chain with up to three others, before and after it."""
     chains = quick_chains(r, r.randint(0, inputs.MOST_CHAINS - 1))
@@ -134,9 +145,34 @@ def refusals(data):
 
 @group
 def whole(r, factor):
-    """schedule files of one to four chains"""
+    """schedule files of one to four chains, with a gap and without"""
+    found = set()
     for i in range(int(600 * factor)):
-        yield b"".join(file_of(r, quick_chains(r, i % inputs.MOST_CHAINS + 1)))
+        data = b"".join(file_of(r, quick_chains(r, i % inputs.MOST_CHAINS + 1)))
+        found.add(reference.read_file(data)[3])
+        yield data
+    assert {0, 1, inputs.MOST_GAP} <= found
+
+
+@group
+def worked(r, factor):
+    """worked examples of order 5, with the lines that each must have"""
+    for tasks, chain, gap, lines in (
+        ([(1, 5, 5, 0)], [1, 1], 0, ["a 0 15"]),
+        ([(1, 5, 5, 0)], [1, 1], 1, ["warm 0", "a 0 20"]),
+        ([(1, 5, 5, 0)], [1, 1], 4, ["warm 0", "a 0 20"]),
+        ([(1, 5, 5, 0)], [1, 1], 1000, ["warm 0", "a 0 1015"]),
+        ([(1, 4, 4, 0), (2, 6, 6, 0)], [1, 2], 2, ["warm 0", "a 0 18", "a 4 20", "max 20"]),
+        ([(1, 4, 4, 0), (2, 6, 6, 0)], [1, 2], 3, ["warm 4", "a 4 20", "a 8 22", "max 22"]),
+        ([(1, 4, 4, 0), (2, 6, 6, 0)], [1, 2], 1000, ["warm 4", "a 4 1016", "a 8 1018"]),
+        ([(1, 10, 2, 0), (2, 10, 1, 95)], [1, 2], 4, ["warm 80", "a 80 26"]),
+        ([(1, 10, 3, 5)], [1], 1000, ["warm 5", "a 5 13"]),
+        ([(1, 3, 2, 1), (2, 7, 5, 2), (3, 4, 4, 0)], [1, 2, 3], 4, ["warm 1", "a 1 31"]),
+        ([(i + 1, 1000000, 4000000, 999 * i) for i in range(12)], list(range(1, 13)), 1000, ["warm 0", "a 0 60010989", "max 60010989", "low 59010989"]),
+    ):
+        data = b"".join(records(tasks, [chain], gap))
+        assert set(lines) <= set(reference.report(data).decode().splitlines()), lines
+        yield data
 
 
 @group
@@ -180,7 +216,7 @@ def refused_chains(r, factor):
                     chains[c] = [(999983, 1, 0), (999979, 1, 0)]
                 elif kind == 11:
                     chains[c] = near_slots(r, 1030)
-                elif reference.check_chain(chains[c])[0] != "ok" or partitions(chains[c]) > 1024:
+                elif reference.check_chain(chains[c], 0)[0] != "ok" or partitions(chains[c]) > 1024:
                     chains[c] = [inputs.small_task(r)]
             data = b"".join(file_of(r, chains))
             assert refusals(data) == {number: (kind, 0) for number, kind in enumerate(kinds, start=1) if kind}
@@ -205,11 +241,12 @@ def damaged(r, factor):
         some = file_of(r, quick_chains(r, r.choice([1, 1, 2, 3, 4])))
         for _ in range(r.choice([0, 1, 1, 2])):
             at = r.randrange(len(some))
-            some[at:at + r.choice([0, 1])] = r.choice([[], [r.choice(some)], [make.END], [make.task_record(r.randint(0, 9), *inputs.edge_task(r))]])
+            other = [make.END, make.task_record(r.randint(0, 9), *inputs.edge_task(r)), gap_record(r.choice(inputs.GAP_VALUES + inputs.OTHER_VALUES))]
+            some[at:at + r.choice([0, 1])] = r.choice([[], [r.choice(some)], [r.choice(other)]])
             some = some or [make.END]
         data = bytearray(b"".join(some))
         for _ in range(r.choice([0, 0, 1, 1, 2])):
-            data[r.randrange(len(data))] = r.choice([0, 1, 2, 3, 4, 18, 255, r.randrange(256)])
+            data[r.randrange(len(data))] = r.choice([0, 1, 2, 3, 4, 6, 18, 255, r.randrange(256)])
         if r.random() < 0.25:
             del data[r.randint(0, len(data)):]
         if r.random() < 0.1:
@@ -217,8 +254,7 @@ def damaged(r, factor):
         read = reference.read_file(bytes(data))
         # A change may have made a chain on which the reference is slow.
         if read[0] == "ok":
-            task_of = {number: task for number, *task in read[1]}
-            if not all(quick([task_of[number] for number in chain]) for chain in read[2]):
+            if not quick_file(read):
                 continue
         else:
             # A refused file has its one line alone.
@@ -229,13 +265,31 @@ def damaged(r, factor):
 
 
 @group
+def gaps(r, factor):
+    """records of a gap at every turn, of every length around its own, with values that are accepted and others"""
+    found = set()
+    some = list(inputs.gap_files(r))
+    for data in r.sample(some, min(len(some), int(150 * factor))) + [data for data in some if reference.read_file(data)[0] == "ok"]:
+        read = reference.read_file(data)
+        if read[0] != "ok":
+            assert reference.report(data).count(b"\n") == 1
+            found.add(read[1])
+        elif quick_file(read):
+            found.add(read[3] > 0)
+        else:
+            continue
+        yield data
+    assert {1, 2, 4, 5, True} <= found
+
+
+@group
 def many(r, factor):
     """32 and 33 tasks, 0 to 13 places, 0 to 6 chains"""
     found = set()
     for _ in range(int(30 * factor)):
         for count, sizes in ((32, [12]), (33, [12]), (32, [13]), (1, [1]), (32, [r.randint(0, 13)]), (32, [12] * 4), (32, [12] * 5), (2, [1] * r.randint(0, 6)), (3, [1, 2, r.randint(0, 13)])):
             tasks = [(2 * i + 1, *inputs.small_task(r)) for i in range(count)]
-            data = b"".join(records(tasks, [[r.choice(tasks)[0] for _ in range(places)] for places in sizes]))
+            data = b"".join(records(tasks, [[r.choice(tasks)[0] for _ in range(places)] for places in sizes], inputs.file_gap(r)))
             found.add(refusals(data).get(0, (0,))[0])
             yield data
     assert found == {0, 2, 4}
@@ -297,7 +351,7 @@ def failures():
         broken.write(bytes(3))
         broken.flush()
         # Two periods with a hyperperiod above the limit, then a chain that has a table.
-        file = b"".join(records([(1, 769, 1, 0), (2, 78125, 1, 0), (3, 7, 1, 0)], [[1, 2], [3]]))
+        file = b"".join(records([(1, 769, 1, 0), (2, 78125, 1, 0), (3, 7, 1, 0)], [[1, 2], [3]], 5))
         second = reference.report(file)
         refused.write(file)
         refused.flush()

@@ -15,7 +15,7 @@ STEP = os.path.join("crates", "stepping", "src", "lib.rt")
 # What else a turn of making's loop over the partitions runs.
 BESIDE = [
     (os.path.join("crates", "maker", "src", "lib.rt"), ("walk", "add_anchor", "last_end", "store")),
-    (os.path.join("crates", "chain", "src", "lib.rt"), ("task_at",)),
+    (os.path.join("crates", "chain", "src", "lib.rt"), ("task_at", "given_at")),
     (os.path.join("crates", "task", "src", "lib.rt"), ("read", "write")),
 ]
 CALLS = [("libcapi_maker.a", "mo_make_table"), ("libcapi_report.a", "mo_report")]
@@ -44,13 +44,26 @@ def instructions(archive, function):
     return [(int(address, 16), name, operands) for address, name, operands in lines]
 
 
-def followers(listed):
-    """Of each instruction the places in the list to which it can go on, and whether it can leave the function for another: by a call, or by a jump out."""
+def tabled(archive, function):
+    """The addresses in the function's jump tables. An entry is an address less its table's, so the linker is told that address and the entry's distance from the table's start."""
+    told = subprocess.run(["objdump", "-dr", "--no-show-raw-insn", f"--disassemble={function}", archive], check=True, stdout=subprocess.PIPE, text=True).stdout
+    starts = sorted({int(start or "0", 16) + 4 for start in re.findall(rf"R_X86_64_PC32\t\.rodata\.{function}([+-]0x[0-9a-f]+)?", told)})
+    told = subprocess.run(["objdump", "-r", "-j", f".rodata.{function}", archive], stdout=subprocess.PIPE, stderr=subprocess.DEVNULL, text=True).stdout
+    entries = [(int(at, 16), int(to, 16)) for at, to in re.findall(rf"^([0-9a-f]+) R_X86_64_PC32 +\.text\.{function}\+0x([0-9a-f]+)$", told, re.MULTILINE)]
+    return sorted({to - (at - max(start for start in starts if start <= at)) for at, to in entries})
+
+
+def followers(listed, table):
+    """Of each instruction the places in the list to which it can go on, and whether it can leave the function for another: by a call, or by a jump out. A jump by a
+    table, which goes by a register, may go to every address that is in one."""
     at = {address: i for i, (address, _, _) in enumerate(listed)}
     onward, leaves = [], []
     for i, (_, name, operands) in enumerate(listed):
         ways, out = [], name.startswith("call")
-        if name.startswith("j"):
+        if name == "jmp" and operands.startswith("*%"):
+            out = not table or any(address not in at for address in table)
+            ways += [at[address] for address in table if address in at]
+        elif name.startswith("j"):
             target = re.match(r"([0-9a-f]+) <", operands)
             place = at.get(int(target.group(1), 16)) if target else None
             out = place is None
@@ -130,7 +143,7 @@ def main():
 
     for archive, call in given:
         listed = instructions(archive, call)
-        onward, leaves = followers(listed)
+        onward, leaves = followers(listed, tabled(archive, call))
         shifts = {i for i, (_, name, operands) in enumerate(listed) if name.startswith("shrx") or (name.startswith("shr") and operands.startswith("%cl"))}
         dividing = {i for i, (_, name, _) in enumerate(listed) if "div" in name}
         widening = {i for i, (_, name, operands) in enumerate(listed) if re.match(r"i?mul[lq]?$|mulx", name) and "," not in operands}

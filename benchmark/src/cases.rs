@@ -6,6 +6,7 @@ use plain::maker::{make_table, Made};
 use plain::schedule::NumberedTask;
 use plain::task::Task;
 use plain::timing::warm_jobs;
+use plain::GAP_LIMIT;
 use std::hash::{DefaultHasher, Hash, Hasher};
 use std::hint::black_box;
 
@@ -52,17 +53,17 @@ fn tasks_after(before: usize, periods: &[u64]) -> Vec<Task> {
     (before..).zip(periods).map(|(i, &period)| Task { period, duration: period, phase: 97 * i as u64 % period }).collect()
 }
 
-fn chain_of(periods: &[u64]) -> Chain {
-    chain_with(tasks_after(0, periods))
+fn chain_of(periods: &[u64], gap: u64) -> Chain {
+    chain_with(tasks_after(0, periods), gap)
 }
 
-fn chain_with(tasks: Vec<Task>) -> Chain {
+fn chain_with(tasks: Vec<Task>, gap: u64) -> Chain {
     let flat = tasks.iter().flat_map(|task| [task.period, task.duration, task.phase]).collect();
-    Chain { tasks, flat }
+    Chain { tasks, flat, gap }
 }
 
 fn hyperperiod(chain: &Chain) -> u64 {
-    check(&chain.tasks).expect("a chain that is accepted")
+    check(&chain.tasks, chain.gap).expect("a chain that is accepted")
 }
 
 /// The place with the longest period, the lowest among equals, from 1.
@@ -73,15 +74,24 @@ fn longest(tasks: &[Task]) -> usize {
 
 /// How many ticks a way through the chain takes at most.
 fn ticks_of_way(chain: &Chain) -> u64 {
-    chain.tasks.iter().map(|task| task.period + task.duration).sum()
+    chain.tasks.iter().map(|task| task.period + task.duration + chain.gap).sum()
+}
+
+/// Only a gap above 0 is named, so that the rows without one keep their names.
+fn gap_text(gap: u64) -> String {
+    if gap == 0 {
+        String::new()
+    } else {
+        format!(", gap {gap}")
+    }
 }
 
 fn named(kind: &str, chain: &Chain) -> String {
-    format!("{kind}, {} places, H {}", chain.tasks.len(), hyperperiod(chain))
+    format!("{kind}, {} places{}, H {}", chain.tasks.len(), gap_text(chain.gap), hyperperiod(chain))
 }
 
-fn making(kind: &str, periods: &[u64]) -> Case {
-    let chain = chain_of(periods);
+fn making(kind: &str, periods: &[u64], gap: u64) -> Case {
+    let chain = chain_of(periods, gap);
     let (p, h, n) = (longest(&chain.tasks), hyperperiod(&chain), periods.len() as u64);
     let walked = h / periods[p - 1];
     Case {
@@ -110,10 +120,10 @@ fn reading(g: usize) -> Case {
     }
 }
 
-fn walking(group: &'static str, kind: &str, periods: &[u64]) -> Case {
-    let chain = chain_of(periods);
+fn walking(group: &'static str, kind: &str, periods: &[u64], gap: u64) -> Case {
+    let chain = chain_of(periods, gap);
     let n = periods.len();
-    let jobs = warm_jobs(&chain.tasks);
+    let jobs = warm_jobs(&chain.tasks, gap);
     let from = if group == "delay" { chain.tasks[0].read(jobs[0]) } else { chain.tasks[n - 1].write(jobs[n - 1]) };
     let mut draws = Draws(n as u64);
     let ticks = (0..TICKS).map(|_| from + draws.below(LATEST)).collect();
@@ -130,9 +140,10 @@ fn windows(kind: &str, chain: Chain, k: u64) -> Case {
     let n = chain.tasks.len();
     let jobs = hyperperiod(&chain) / chain.tasks[0].period;
     // The longest of 1000 spans from all over the range misses, and what is longer still. So few jobs miss; else the call would end early, at a window with k misses.
-    let warm = warm_jobs(&chain.tasks)[0];
+    let warm = warm_jobs(&chain.tasks, chain.gap)[0];
     let looked = jobs.min(1000);
-    let spans = (0..looked).map(|i| warm + 1 + i * jobs / looked).map(|job| chain.tasks[n - 1].write(forward(&chain.tasks, job)) - chain.tasks[0].read(job));
+    let span = |job: u64| chain.tasks[n - 1].write(forward(&chain.tasks, chain.gap, job)) - chain.tasks[0].read(job);
+    let spans = (0..looked).map(|i| span(warm + 1 + i * jobs / looked));
     let b = spans.max().unwrap() - 1;
     Case {
         group: "windows",
@@ -145,11 +156,11 @@ fn windows(kind: &str, chain: Chain, k: u64) -> Case {
 
 /// The worst kind: one job misses, the last but one of the range, so that for k above 1 both looks walk nearly all jobs.
 fn late() -> Chain {
-    chain_with(vec![Task { period: 401, duration: 401, phase: 0 }, Task { period: 503, duration: 503, phase: 400 }])
+    chain_with(vec![Task { period: 401, duration: 401, phase: 0 }, Task { period: 503, duration: 503, phase: 400 }], 0)
 }
 
 /// A schedule of two chains without a common task.
-fn schedule_of(first: &[Task], second: &[Task]) -> Schedule {
+fn schedule_of(first: &[Task], second: &[Task], gap: u64) -> Schedule {
     let numbered: Vec<NumberedTask> = (1..).zip(first.iter().chain(second)).map(|(number, &task)| NumberedTask { number, task }).collect();
     let tasks = numbered.iter().flat_map(|one| [one.number, one.task.period, one.task.duration, one.task.phase]).collect();
     let n = first.len() as u64;
@@ -159,32 +170,32 @@ fn schedule_of(first: &[Task], second: &[Task]) -> Schedule {
         entries[..route.len()].copy_from_slice(route);
     }
     let places = routes.iter().map(|route| route.len() as u64).collect();
-    Schedule { plain: plain::schedule::Schedule { tasks: numbered, chains: routes }, tasks, chains, places }
+    Schedule { plain: plain::schedule::Schedule { tasks: numbered, chains: routes, gap }, tasks, chains, places }
 }
 
 /// The anchors of a chain in h ticks, a multiple of its hyperperiod.
-fn anchors_in(tasks: &[Task], h: u64) -> u64 {
-    match make_table(tasks, longest(tasks), &mut [], &mut []) {
+fn anchors_in(tasks: &[Task], gap: u64, h: u64) -> u64 {
+    match make_table(tasks, gap, longest(tasks), &mut [], &mut []) {
         Made::Whole(figures) | Made::Short(figures) => figures.anchors as u64 * (h / figures.hyperperiod),
         Made::Refused(_) => panic!("a chain that is accepted"),
     }
 }
 
-fn bookings(kind: &str, periods: [&[u64]; 2]) -> Case {
+fn bookings(kind: &str, periods: [&[u64]; 2], gap: u64) -> Case {
     let first = tasks_after(0, periods[0]);
     let second = tasks_after(first.len(), periods[1]);
     let (n, m) = (first.len() as u64, second.len() as u64);
-    let (from, h) = check_pair(&first, &second, LATEST).expect("a pair that is accepted");
-    let (a, b) = (anchors_in(&first, h), anchors_in(&second, h));
+    let (from, h) = check_pair(&first, gap, &second, gap, LATEST).expect("a pair that is accepted");
+    let (a, b) = (anchors_in(&first, gap, h), anchors_in(&second, gap, h));
     let steps = h * (n + m);
     let mut draws = Draws(h);
     let ticks: Vec<u64> = (0..(MOST_STEPS / steps).clamp(1, TICKS as u64)).map(|_| from + draws.below(LATEST)).collect();
     Case {
         group: "bookings",
-        name: format!("{kind}, {n} and {m} places, H {h}, anchors {}", a + b),
+        name: format!("{kind}, {n} and {m} places{}, H {h}, anchors {}", gap_text(gap), a + b),
         enumerating: steps * ticks.len() as u64,
         work: a * n + b * m,
-        call: Call::Bookings { schedule: schedule_of(&first, &second), ticks },
+        call: Call::Bookings { schedule: schedule_of(&first, &second, gap), ticks },
     }
 }
 
@@ -208,30 +219,35 @@ pub fn all() -> Vec<Case> {
     // Wat19-C1 and Wat19-C3 of docs/CASE-STUDIES.md.
     let published = [33_000, 400_000, 15_000, 15_000, 5_000];
     let beside = [10_000, 15_000, 15_000, 5_000];
-    let mut cases: Vec<Case> = [2, 4, 8, 12].iter().map(|&n| making("harmonic", &doubling(250, n))).collect();
-    cases.push(making("published", &published));
-    cases.extend(coprime.iter().map(|periods| making("co-prime", periods)));
-    cases.extend(apart.iter().map(|periods| making("far apart", periods)));
+    let mut cases: Vec<Case> = [2, 4, 8, 12].iter().map(|&n| making("harmonic", &doubling(250, n), 0)).collect();
+    cases.push(making("published", &published, 0));
+    cases.extend(coprime.iter().map(|periods| making("co-prime", periods, 0)));
+    cases.extend(apart.iter().map(|periods| making("far apart", periods, 0)));
+    cases.push(making("published", &published, GAP_LIMIT));
+    cases.push(making("co-prime", coprime[4], 37));
     cases.extend([1, 4, 16, 64, 256, 1024].iter().map(|&g| reading(g)));
     for group in ["delay", "age"] {
-        cases.extend([2, 4, 8, 12].iter().map(|&n| walking(group, "harmonic", &doubling(250, n))));
-        cases.push(walking(group, "published", &published));
-        cases.extend([0, 4, 8, 9].iter().map(|&i| walking(group, "co-prime", coprime[i])));
+        cases.extend([2, 4, 8, 12].iter().map(|&n| walking(group, "harmonic", &doubling(250, n), 0)));
+        cases.push(walking(group, "published", &published, 0));
+        cases.extend([0, 4, 8, 9].iter().map(|&i| walking(group, "co-prime", coprime[i], 0)));
+        cases.push(walking(group, "co-prime", coprime[4], 37));
     }
     cases.extend([1, 10, 100].iter().map(|&k| windows("late", late(), k)));
-    cases.extend([1, 10, 100].iter().map(|&k| windows("published", chain_of(&published), k)));
-    cases.push(windows("harmonic", chain_of(&doubling(250, 12)), 10));
-    cases.extend([0, 4, 6, 3, 7, 9].iter().map(|&i| windows("co-prime", chain_of(coprime[i]), 10)));
-    cases.push(windows("co-prime", chain_of(coprime[3]), 100));
-    cases.push(bookings("harmonic", [&[250], &[500]]));
-    cases.push(bookings("harmonic", [&doubling(250, 4), &doubling(4000, 4)]));
-    cases.push(bookings("harmonic", [&doubling(250, 12), &doubling(250, 12)]));
-    cases.push(bookings("published", [&published, &beside]));
-    cases.push(bookings("co-prime", [&[97], &[101]]));
-    cases.push(bookings("co-prime", [&[7, 9], &[10, 11]]));
-    cases.push(bookings("co-prime", [&[768], &[78_125]]));
-    cases.push(bookings("co-prime", [&[4, 5, 7, 9], &[11, 13, 17, 19]]));
-    cases.push(bookings("co-prime", [&[1], &[768, 78_125]]));
+    cases.extend([1, 10, 100].iter().map(|&k| windows("published", chain_of(&published, 0), k)));
+    cases.push(windows("harmonic", chain_of(&doubling(250, 12), 0), 10));
+    cases.extend([0, 4, 6, 3, 7, 9].iter().map(|&i| windows("co-prime", chain_of(coprime[i], 0), 10)));
+    cases.push(windows("co-prime", chain_of(coprime[3], 0), 100));
+    cases.push(windows("co-prime", chain_of(coprime[4], 37), 10));
+    cases.push(bookings("harmonic", [&[250], &[500]], 0));
+    cases.push(bookings("harmonic", [&doubling(250, 4), &doubling(4000, 4)], 0));
+    cases.push(bookings("harmonic", [&doubling(250, 12), &doubling(250, 12)], 0));
+    cases.push(bookings("published", [&published, &beside], 0));
+    cases.push(bookings("co-prime", [&[97], &[101]], 0));
+    cases.push(bookings("co-prime", [&[7, 9], &[10, 11]], 0));
+    cases.push(bookings("co-prime", [&[768], &[78_125]], 0));
+    cases.push(bookings("co-prime", [&[4, 5, 7, 9], &[11, 13, 17, 19]], 0));
+    cases.push(bookings("co-prime", [&[1], &[768, 78_125]], 0));
+    cases.push(bookings("co-prime", [&[7, 9], &[10, 11]], 37));
     cases
 }
 
@@ -252,7 +268,30 @@ fn mix(digest: u64, value: u64) -> u64 {
     digest.rotate_left(5) ^ value
 }
 
-/// Apart, so that the loops of the other calls need the same instructions with it as without it.
+// The calls of many arguments have their loops apart, so that the loops of the other calls need the same instructions with them as without them.
+
+#[inline(never)]
+fn repeat_making<P: Program>(chain: &Chain, p: usize, lists: &mut Lists, repeats: usize) -> u64 {
+    let mut digest = 0;
+    for _ in 0..repeats {
+        let mut figures = [0; 4];
+        let code = P::make(black_box(chain), p, &mut lists.starts, &mut lists.latencies, &mut figures);
+        digest = figures.iter().fold(mix(digest, code), |digest, &figure| mix(digest, figure));
+    }
+    digest
+}
+
+#[inline(never)]
+fn repeat_windows<P: Program>(chain: &Chain, b: u64, k: u64, repeats: usize) -> u64 {
+    let mut digest = 0;
+    for _ in 0..repeats {
+        let mut out = [0; 2];
+        let code = P::windows(black_box(chain), b, k, &mut out);
+        digest = mix(mix(mix(digest, code), out[0]), out[1]);
+    }
+    digest
+}
+
 #[inline(never)]
 fn repeat_bookings<P: Program>(schedule: &Schedule, ticks: &[u64], repeats: usize) -> u64 {
     let mut digest = 0;
@@ -268,13 +307,7 @@ fn repeat_bookings<P: Program>(schedule: &Schedule, ticks: &[u64], repeats: usiz
 pub fn repeat<P: Program>(case: &Case, lists: &mut Lists, repeats: usize) -> u64 {
     let mut digest = 0;
     match &case.call {
-        Call::Make { chain, p, .. } => {
-            for _ in 0..repeats {
-                let mut figures = [0; 4];
-                let code = P::make(black_box(chain), *p, &mut lists.starts, &mut lists.latencies, &mut figures);
-                digest = figures.iter().fold(mix(digest, code), |digest, &figure| mix(digest, figure));
-            }
-        }
+        Call::Make { chain, p, .. } => digest = repeat_making::<P>(chain, *p, lists, repeats),
         Call::Read { table, ticks } => {
             for i in 0..repeats {
                 digest = mix(digest, P::read(black_box(table), ticks[i % TICKS]));
@@ -294,13 +327,7 @@ pub fn repeat<P: Program>(case: &Case, lists: &mut Lists, repeats: usize) -> u64
                 digest = mix(mix(digest, code), out);
             }
         }
-        Call::Windows { chain, b, k } => {
-            for _ in 0..repeats {
-                let mut out = [0; 2];
-                let code = P::windows(black_box(chain), *b, *k, &mut out);
-                digest = mix(mix(mix(digest, code), out[0]), out[1]);
-            }
-        }
+        Call::Windows { chain, b, k } => digest = repeat_windows::<P>(chain, *b, *k, repeats),
         Call::Bookings { schedule, ticks } => digest = repeat_bookings::<P>(schedule, ticks, repeats),
     }
     digest

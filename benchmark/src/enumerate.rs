@@ -19,71 +19,76 @@ fn writes_at(task: &Task, tick: u64) -> bool {
     task.duration <= tick && reads_at(task, tick - task.duration)
 }
 
-/// The write at which the way forward ends, where the first read is looked for from a tick on.
-fn booked(tasks: &[Task], from: u64) -> u64 {
+/// The write of the first job that reads at or after a tick.
+fn written(task: &Task, from: u64) -> u64 {
     let mut tick = from;
-    for task in tasks {
-        while !reads_at(task, tick) {
-            tick += 1;
-        }
-        tick += task.duration;
+    while !reads_at(task, tick) {
+        tick += 1;
     }
-    tick
+    tick + task.duration
 }
 
-/// The read at which the way backward ends, where the last write is looked for from a tick down.
-fn sampled(tasks: &[Task], from: u64) -> u64 {
-    let mut tick = from;
-    for task in tasks.iter().rev() {
-        while !writes_at(task, tick) {
-            tick -= 1;
-        }
-        tick -= task.duration;
+/// The read of the last job that writes at or before a tick.
+fn begun(task: &Task, by: u64) -> u64 {
+    let mut tick = by;
+    while !writes_at(task, tick) {
+        tick -= 1;
     }
-    tick
+    tick - task.duration
+}
+
+/// The write at which the way forward ends, where the first read is looked for from a tick on. Each further read is at or after the write before it and the gap.
+fn booked(tasks: &[Task], gap: u64, from: u64) -> u64 {
+    tasks[1..].iter().fold(written(&tasks[0], from), |write, task| written(task, write + gap))
+}
+
+/// The read at which the way backward ends, where the last write is looked for from a tick down. Each write before it is the gap or more before the read that it connects to.
+fn sampled(tasks: &[Task], gap: u64, from: u64) -> u64 {
+    let n = tasks.len() - 1;
+    tasks[..n].iter().rev().fold(begun(&tasks[n], from), |read, task| begun(task, read - gap))
 }
 
 /// The write of Wn: where job 0 of the first place goes. No later tick has to be tried, which makes this program quicker, not slower.
-fn first_aged(tasks: &[Task]) -> u64 {
-    booked(tasks, tasks[0].phase)
+fn first_aged(tasks: &[Task], gap: u64) -> u64 {
+    booked(tasks, gap, tasks[0].phase)
 }
 
-fn warm_tick(tasks: &[Task]) -> u64 {
-    sampled(tasks, first_aged(tasks))
+fn warm_tick(tasks: &[Task], gap: u64) -> u64 {
+    sampled(tasks, gap, first_aged(tasks, gap))
 }
 
 /// From tick to tick until the booking.
-pub fn delay(tasks: &[Task], t: u64) -> Result<u64, Refusal> {
-    check(tasks)?;
-    if t < warm_tick(tasks) {
+pub fn delay(tasks: &[Task], gap: u64, t: u64) -> Result<u64, Refusal> {
+    check(tasks, gap)?;
+    if t < warm_tick(tasks, gap) {
         return Err(refusal(12));
     }
     if UPPER_TICK < t {
         return Err(refusal(13));
     }
-    Ok(booked(tasks, t + 1) - t)
+    Ok(booked(tasks, gap, t + 1) - t)
 }
 
 /// From tick to tick back to the reading.
-pub fn age(tasks: &[Task], z: u64) -> Result<u64, Refusal> {
-    check(tasks)?;
-    if z < first_aged(tasks) {
+pub fn age(tasks: &[Task], gap: u64, z: u64) -> Result<u64, Refusal> {
+    check(tasks, gap)?;
+    if z < first_aged(tasks, gap) {
         return Err(refusal(12));
     }
     if UPPER_TICK < z {
         return Err(refusal(13));
     }
-    Ok(z - sampled(tasks, z))
+    Ok(z - sampled(tasks, gap, z))
 }
 
 /// The booking of a press, walked as the plain program walks.
-fn walked_from(tasks: &[Task], t: u64) -> u64 {
-    tasks[tasks.len() - 1].write(forward(tasks, tasks[0].earliest_after(t)))
+fn walked_from(tasks: &[Task], gap: u64, t: u64) -> u64 {
+    tasks[tasks.len() - 1].write(forward(tasks, gap, tasks[0].earliest_after(t)))
 }
 
 /// The delay at every tick of a hyperperiod, walked as the plain program walks; an anchor is a tick whose booking is another than that of the tick before.
-pub fn make_table(tasks: &[Task], p: usize, starts: &mut [u64], latencies: &mut [u64]) -> Made {
-    let h = match check(tasks) {
+pub fn make_table(tasks: &[Task], gap: u64, p: usize, starts: &mut [u64], latencies: &mut [u64]) -> Made {
+    let h = match check(tasks, gap) {
         Err(r) => return Made::Refused(r),
         Ok(h) => h,
     };
@@ -93,11 +98,11 @@ pub fn make_table(tasks: &[Task], p: usize, starts: &mut [u64], latencies: &mut 
     if starts.len() != latencies.len() {
         return Made::Refused(refusal(10));
     }
-    let x0 = warm_tick(tasks);
+    let x0 = warm_tick(tasks, gap);
     let mut anchors = 0;
     let mut before = 0;
     for t in x0..x0 + h {
-        let end = walked_from(tasks, t);
+        let end = walked_from(tasks, gap, t);
         if end != before {
             if anchors < starts.len() {
                 starts[anchors] = t;
@@ -141,18 +146,18 @@ pub fn read_at(starts: &[u64], latencies: &[u64], g: usize, h: u64, t: u64) -> R
 }
 
 /// Every job from tick to tick, and every window counted anew.
-pub fn most_misses(tasks: &[Task], bound: u64, k: u64) -> Result<(u64, u64), Refusal> {
-    let h = check(tasks)?;
+pub fn most_misses(tasks: &[Task], gap: u64, bound: u64, k: u64) -> Result<(u64, u64), Refusal> {
+    let h = check(tasks, gap)?;
     if k < 1 || 100 < k {
         return Err(refusal(15));
     }
     let first = &tasks[0];
-    let warm = (warm_tick(tasks) - first.phase) / first.period;
+    let warm = (warm_tick(tasks, gap) - first.phase) / first.period;
     let jobs = h / first.period;
     let missed: Vec<u64> = (warm + 1..warm + jobs + k)
         .map(|job| {
             let read = first.read(job);
-            (bound < booked(tasks, read) - read) as u64
+            (bound < booked(tasks, gap, read) - read) as u64
         })
         .collect();
     let mut best = (0, warm + 1);
@@ -170,9 +175,9 @@ pub fn pair_of(schedule: &Schedule, first: usize, second: usize, t: u64) -> Resu
     schedule.check()?;
     let first = schedule.chain(first)?;
     let second = schedule.chain(second)?;
-    let (first, second) = (first.tasks(), second.tasks());
-    let (from, h) = check_pair(first, second, t)?;
-    let (a, b) = (walked_from(first, t), walked_from(second, t));
-    let greatest = (from..from + h).map(|tick| walked_from(first, tick).abs_diff(walked_from(second, tick))).max().unwrap_or(0);
+    let (first, second, gap) = (first.tasks(), second.tasks(), schedule.gap);
+    let (from, h) = check_pair(first, gap, second, gap, t)?;
+    let (a, b) = (walked_from(first, gap, t), walked_from(second, gap, t));
+    let greatest = (from..from + h).map(|tick| walked_from(first, gap, tick).abs_diff(walked_from(second, gap, tick))).max().unwrap_or(0);
     Ok(Bookings { later: a.max(b), earlier: a.min(b), difference: a.abs_diff(b), greatest })
 }

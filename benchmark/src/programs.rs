@@ -12,6 +12,7 @@ pub const REFUSED: u64 = 1 << 32;
 pub struct Chain {
     pub tasks: Vec<Task>,
     pub flat: Vec<u64>,
+    pub gap: u64,
 }
 
 pub struct Table {
@@ -78,13 +79,15 @@ pub struct Proved;
 mod c {
     extern "C" {
         pub fn mo_read_table(starts: *const u64, n: usize, latencies: *const u64, m: usize, g: u64, h: u64, t: u64) -> u64;
-        pub fn mo_delay(tasks: *const u64, length: usize, places: usize, t: u64, delay: *mut u64) -> u64;
-        pub fn mo_age(tasks: *const u64, length: usize, places: usize, z: u64, age: *mut u64) -> u64;
-        pub fn mo_make_table(tasks: *const u64, length: usize, places: usize, p: usize, starts: *mut u64, n: usize, latencies: *mut u64, m: usize, figures: *mut u64) -> u64;
-        pub fn mo_windows(tasks: *const u64, length: usize, places: usize, b: u64, k: u64, misses: *mut u64, first: *mut u64) -> u64;
+        pub fn mo_delay(tasks: *const u64, length: usize, places: usize, gap: u64, t: u64, delay: *mut u64) -> u64;
+        pub fn mo_age(tasks: *const u64, length: usize, places: usize, gap: u64, z: u64, age: *mut u64) -> u64;
+        pub fn mo_make_table(
+            tasks: *const u64, length: usize, places: usize, gap: u64, p: usize, starts: *mut u64, n: usize, latencies: *mut u64, m: usize, figures: *mut u64,
+        ) -> u64;
+        pub fn mo_windows(tasks: *const u64, length: usize, places: usize, gap: u64, b: u64, k: u64, misses: *mut u64, first: *mut u64) -> u64;
         pub fn mo_bookings(
             tasks: *const u64, tasks_length: usize, count: usize, chains: *const u64, chains_length: usize, places: *const u64, places_length: usize,
-            chain_count: usize, first: usize, second: usize, t: u64, figures: *mut u64,
+            chain_count: usize, gap: u64, first: usize, second: usize, t: u64, figures: *mut u64,
         ) -> u64;
     }
 }
@@ -92,8 +95,8 @@ mod c {
 // Each pointer comes from a slice or a reference that lives through the call, with its own length beside it; the lists written to are apart from all else.
 impl Program for Proved {
     fn make(chain: &Chain, p: usize, starts: &mut [u64], latencies: &mut [u64], figures: &mut [u64; 4]) -> u64 {
-        let (tasks, places) = (&chain.flat, chain.tasks.len());
-        unsafe { c::mo_make_table(tasks.as_ptr(), tasks.len(), places, p, starts.as_mut_ptr(), starts.len(), latencies.as_mut_ptr(), latencies.len(), figures.as_mut_ptr()) }
+        let (tasks, places, gap) = (&chain.flat, chain.tasks.len(), chain.gap);
+        unsafe { c::mo_make_table(tasks.as_ptr(), tasks.len(), places, gap, p, starts.as_mut_ptr(), starts.len(), latencies.as_mut_ptr(), latencies.len(), figures.as_mut_ptr()) }
     }
 
     fn read(table: &Table, t: u64) -> u64 {
@@ -102,22 +105,22 @@ impl Program for Proved {
     }
 
     fn delay(chain: &Chain, t: u64, out: &mut u64) -> u64 {
-        unsafe { c::mo_delay(chain.flat.as_ptr(), chain.flat.len(), chain.tasks.len(), t, out) }
+        unsafe { c::mo_delay(chain.flat.as_ptr(), chain.flat.len(), chain.tasks.len(), chain.gap, t, out) }
     }
 
     fn age(chain: &Chain, z: u64, out: &mut u64) -> u64 {
-        unsafe { c::mo_age(chain.flat.as_ptr(), chain.flat.len(), chain.tasks.len(), z, out) }
+        unsafe { c::mo_age(chain.flat.as_ptr(), chain.flat.len(), chain.tasks.len(), chain.gap, z, out) }
     }
 
     fn windows(chain: &Chain, b: u64, k: u64, out: &mut [u64; 2]) -> u64 {
         let [misses, first] = out;
-        unsafe { c::mo_windows(chain.flat.as_ptr(), chain.flat.len(), chain.tasks.len(), b, k, misses, first) }
+        unsafe { c::mo_windows(chain.flat.as_ptr(), chain.flat.len(), chain.tasks.len(), chain.gap, b, k, misses, first) }
     }
 
     fn bookings(schedule: &Schedule, t: u64, out: &mut [u64; 4]) -> u64 {
         let (tasks, chains, places) = (&schedule.tasks, &schedule.chains, &schedule.places);
-        let count = tasks.len() / 4;
-        unsafe { c::mo_bookings(tasks.as_ptr(), tasks.len(), count, chains.as_ptr(), chains.len(), places.as_ptr(), places.len(), places.len(), 1, 2, t, out.as_mut_ptr()) }
+        let (count, gap) = (tasks.len() / 4, schedule.plain.gap);
+        unsafe { c::mo_bookings(tasks.as_ptr(), tasks.len(), count, chains.as_ptr(), chains.len(), places.as_ptr(), places.len(), places.len(), gap, 1, 2, t, out.as_mut_ptr()) }
     }
 }
 
@@ -125,7 +128,7 @@ pub struct Plain;
 
 impl Program for Plain {
     fn make(chain: &Chain, p: usize, starts: &mut [u64], latencies: &mut [u64], figures: &mut [u64; 4]) -> u64 {
-        give_table(plain::maker::make_table(&chain.tasks, p, starts, latencies), figures)
+        give_table(plain::maker::make_table(&chain.tasks, chain.gap, p, starts, latencies), figures)
     }
 
     fn read(table: &Table, t: u64) -> u64 {
@@ -133,15 +136,15 @@ impl Program for Plain {
     }
 
     fn delay(chain: &Chain, t: u64, out: &mut u64) -> u64 {
-        give(plain::timing::delay(&chain.tasks, t), out)
+        give(plain::timing::delay(&chain.tasks, chain.gap, t), out)
     }
 
     fn age(chain: &Chain, z: u64, out: &mut u64) -> u64 {
-        give(plain::timing::age(&chain.tasks, z), out)
+        give(plain::timing::age(&chain.tasks, chain.gap, z), out)
     }
 
     fn windows(chain: &Chain, b: u64, k: u64, out: &mut [u64; 2]) -> u64 {
-        give_pair(plain::windows::most_misses(&chain.tasks, b, k), out)
+        give_pair(plain::windows::most_misses(&chain.tasks, chain.gap, b, k), out)
     }
 
     fn bookings(schedule: &Schedule, t: u64, out: &mut [u64; 4]) -> u64 {
@@ -153,7 +156,7 @@ pub struct Enumerating;
 
 impl Program for Enumerating {
     fn make(chain: &Chain, p: usize, starts: &mut [u64], latencies: &mut [u64], figures: &mut [u64; 4]) -> u64 {
-        give_table(enumerate::make_table(&chain.tasks, p, starts, latencies), figures)
+        give_table(enumerate::make_table(&chain.tasks, chain.gap, p, starts, latencies), figures)
     }
 
     fn read(table: &Table, t: u64) -> u64 {
@@ -161,15 +164,15 @@ impl Program for Enumerating {
     }
 
     fn delay(chain: &Chain, t: u64, out: &mut u64) -> u64 {
-        give(enumerate::delay(&chain.tasks, t), out)
+        give(enumerate::delay(&chain.tasks, chain.gap, t), out)
     }
 
     fn age(chain: &Chain, z: u64, out: &mut u64) -> u64 {
-        give(enumerate::age(&chain.tasks, z), out)
+        give(enumerate::age(&chain.tasks, chain.gap, z), out)
     }
 
     fn windows(chain: &Chain, b: u64, k: u64, out: &mut [u64; 2]) -> u64 {
-        give_pair(enumerate::most_misses(&chain.tasks, b, k), out)
+        give_pair(enumerate::most_misses(&chain.tasks, chain.gap, b, k), out)
     }
 
     fn bookings(schedule: &Schedule, t: u64, out: &mut [u64; 4]) -> u64 {
@@ -182,7 +185,7 @@ pub struct Dividing;
 
 impl Program for Dividing {
     fn make(chain: &Chain, p: usize, starts: &mut [u64], latencies: &mut [u64], figures: &mut [u64; 4]) -> u64 {
-        give_table(dividing::make_table(&chain.tasks, p, starts, latencies), figures)
+        give_table(dividing::make_table(&chain.tasks, chain.gap, p, starts, latencies), figures)
     }
 
     fn read(table: &Table, t: u64) -> u64 {
@@ -211,7 +214,7 @@ pub struct ByValue;
 
 impl Program for ByValue {
     fn make(chain: &Chain, p: usize, starts: &mut [u64], latencies: &mut [u64], figures: &mut [u64; 4]) -> u64 {
-        let copied = by_value::chain_from(&chain.flat, chain.tasks.len());
+        let copied = by_value::chain_from(&chain.flat, chain.tasks.len(), chain.gap);
         give_table(by_value::make_table(copied, p, starts, latencies), figures)
     }
 
@@ -220,15 +223,15 @@ impl Program for ByValue {
     }
 
     fn delay(chain: &Chain, t: u64, out: &mut u64) -> u64 {
-        give(by_value::delay(by_value::chain_from(&chain.flat, chain.tasks.len()), t), out)
+        give(by_value::delay(by_value::chain_from(&chain.flat, chain.tasks.len(), chain.gap), t), out)
     }
 
     fn age(chain: &Chain, z: u64, out: &mut u64) -> u64 {
-        give(by_value::age(by_value::chain_from(&chain.flat, chain.tasks.len()), z), out)
+        give(by_value::age(by_value::chain_from(&chain.flat, chain.tasks.len(), chain.gap), z), out)
     }
 
     fn windows(chain: &Chain, b: u64, k: u64, out: &mut [u64; 2]) -> u64 {
-        give_pair(by_value::most_misses(by_value::chain_from(&chain.flat, chain.tasks.len()), b, k), out)
+        give_pair(by_value::most_misses(by_value::chain_from(&chain.flat, chain.tasks.len(), chain.gap), b, k), out)
     }
 
     fn bookings(schedule: &Schedule, t: u64, out: &mut [u64; 4]) -> u64 {
@@ -241,7 +244,7 @@ pub struct Flat;
 
 impl Program for Flat {
     fn make(chain: &Chain, p: usize, starts: &mut [u64], latencies: &mut [u64], figures: &mut [u64; 4]) -> u64 {
-        give_table(flat::make_table(&chain.flat, chain.tasks.len(), p, starts, latencies), figures)
+        give_table(flat::make_table(&chain.flat, chain.tasks.len(), chain.gap, p, starts, latencies), figures)
     }
 
     fn read(table: &Table, t: u64) -> u64 {
@@ -249,15 +252,15 @@ impl Program for Flat {
     }
 
     fn delay(chain: &Chain, t: u64, out: &mut u64) -> u64 {
-        give(flat::delay(&chain.flat, chain.tasks.len(), t), out)
+        give(flat::delay(&chain.flat, chain.tasks.len(), chain.gap, t), out)
     }
 
     fn age(chain: &Chain, z: u64, out: &mut u64) -> u64 {
-        give(flat::age(&chain.flat, chain.tasks.len(), z), out)
+        give(flat::age(&chain.flat, chain.tasks.len(), chain.gap, z), out)
     }
 
     fn windows(chain: &Chain, b: u64, k: u64, out: &mut [u64; 2]) -> u64 {
-        give_pair(flat::most_misses(&chain.flat, chain.tasks.len(), b, k), out)
+        give_pair(flat::most_misses(&chain.flat, chain.tasks.len(), chain.gap, b, k), out)
     }
 
     fn bookings(schedule: &Schedule, t: u64, out: &mut [u64; 4]) -> u64 {

@@ -34,11 +34,16 @@ static const uint64_t places_limit[2] = { 1, 1 };
 
 static uint64_t figures[4];
 
-static uint64_t pair(const uint64_t *tasks, size_t first, size_t second, uint64_t t)
+static uint64_t pair_with(const uint64_t *tasks, uint64_t gap, size_t first, size_t second, uint64_t t)
 {
     for (size_t i = 0; i < 4; i++)
         figures[i] = RUBBISH;
-    return mo_bookings(tasks, 12, 3, chains, 13, places, 2, 2, first, second, t, figures);
+    return mo_bookings(tasks, 12, 3, chains, 13, places, 2, 2, gap, first, second, t, figures);
+}
+
+static uint64_t pair(const uint64_t *tasks, size_t first, size_t second, uint64_t t)
+{
+    return pair_with(tasks, 0, first, second, t);
 }
 
 static void expect_figures(uint64_t later, uint64_t earlier, uint64_t difference, uint64_t greatest)
@@ -50,12 +55,17 @@ static void expect_figures(uint64_t later, uint64_t earlier, uint64_t difference
 }
 
 /* A press at t, and the two numbers in either order. */
+static void booked_with(const char *what, const uint64_t *tasks, uint64_t gap, uint64_t t, uint64_t later, uint64_t earlier, uint64_t greatest)
+{
+    expect(what, pair_with(tasks, gap, 1, 2, t), 0);
+    expect_figures(later, earlier, later - earlier, greatest);
+    expect("  the numbers changed about", pair_with(tasks, gap, 2, 1, t), 0);
+    expect_figures(later, earlier, later - earlier, greatest);
+}
+
 static void booked(const char *what, const uint64_t *tasks, uint64_t t, uint64_t later, uint64_t earlier, uint64_t greatest)
 {
-    expect(what, pair(tasks, 1, 2, t), 0);
-    expect_figures(later, earlier, later - earlier, greatest);
-    expect("  the numbers changed about", pair(tasks, 2, 1, t), 0);
-    expect_figures(later, earlier, later - earlier, greatest);
+    booked_with(what, tasks, 0, t, later, earlier, greatest);
 }
 
 static void refused(const char *what, uint64_t code, uint64_t wanted)
@@ -94,6 +104,38 @@ static void check_bookings(void)
     booked("after a late warm-up, at 100", tasks_late, 100, 116, 108, 10);
 }
 
+/* The first chain has a link, the second none: a gap moves the bookings of the first alone. */
+static void check_gaps(void)
+{
+    uint64_t most = 0, at = 0;
+
+    booked_with("gap 1, at 5", tasks_s, 1, 5, 24, 18, 16);
+    booked_with("gap 1, at 12", tasks_s, 1, 12, 30, 18, 16);
+    booked_with("gap 1, at 15", tasks_s, 1, 15, 30, 28, 16);
+    booked_with("gap 1, at 64, where they lie furthest apart", tasks_s, 1, 64, 84, 68, 16);
+    booked_with("gap 1, at the upper tick", tasks_s, 1, MO_UPPER_TICK, 1000000000020u, 1000000000008u, 16);
+    booked_with("gap 3, at 5", tasks_s, 3, 5, 24, 18, 18);
+    booked_with("gap 3, at 8", tasks_s, 3, 8, 30, 18, 18);
+    booked_with("gap 1,000, at 8", tasks_s, 1000, 8, 1026, 18, 1014);
+    for (uint64_t t = 5; t < 65; t++) {
+        pair_with(tasks_s, 3, 1, 2, t);
+        if (figures[2] > most) {
+            most = figures[2];
+            at = t;
+        }
+    }
+    expect("the greatest of every press with gap 3", most, 18);
+    expect("  at", at, 44);
+    /* With gap 4 the first chain warms up 10 ticks earlier. */
+    booked_with("gap 3 after a late warm-up, at 90", tasks_late, 3, 90, 106, 96, 10);
+    refused("gap 3, at 89", pair_with(tasks_late, 3, 1, 2, 89), MO_TICK_TOO_EARLY);
+    booked_with("gap 4, at 80", tasks_late, 4, 80, 106, 88, 20);
+    booked_with("gap 4, at 90", tasks_late, 4, 90, 116, 96, 20);
+    refused("gap 4, at 79", pair_with(tasks_late, 4, 1, 2, 79), MO_TICK_TOO_EARLY);
+    expect("the chain without a link, twice, with gap 1,000", pair_with(tasks_s, 1000, 2, 2, 5), 0);
+    expect_figures(18, 18, 0, 0);
+}
+
 static void check_one_chain(void)
 {
     expect("chain 1 twice", pair(tasks_s, 1, 1, 0), 0);
@@ -123,9 +165,9 @@ static void check_refusals(void)
     refused("a second chain above the limit", pair(tasks_too_long, 2, 1, UINT64_MAX), MO_HYPERPERIOD_TOO_LONG);
     refused("a chain above the limit, and no chain 3", pair(tasks_too_long, 1, 3, 0), MO_CHAIN_UNKNOWN);
     expect("its other chain twice", pair(tasks_too_long, 2, 2, 0), 0);
-    expect("a common hyperperiod at the limit", mo_bookings(tasks_limit, 12, 3, chains_limit, 13, places_limit, 2, 2, 1, 2, 0, figures), 0);
+    expect("a common hyperperiod at the limit", mo_bookings(tasks_limit, 12, 3, chains_limit, 13, places_limit, 2, 2, 0, 1, 2, 0, figures), 0);
     expect_figures(78126, 769, 77357, 78124);
-    refused("a common hyperperiod of 60,000,001", mo_bookings(tasks_above, 12, 3, chains_limit, 13, places_limit, 2, 2, 1, 2, 0, figures),
+    refused("a common hyperperiod of 60,000,001", mo_bookings(tasks_above, 12, 3, chains_limit, 13, places_limit, 2, 2, 0, 1, 2, 0, figures),
             MO_HYPERPERIOD_TOO_LONG);
 }
 
@@ -145,21 +187,32 @@ static void check_schedules(void)
         uint64_t t = i % 2 ? UINT64_MAX : 0;
 
         memset(figures, 0xff, sizeof figures);
-        refused("no chain", mo_bookings(tasks_s, 12, 3, chains, 13, places, 2, 0, first, second, t, figures), MO_PLACES_OUTSIDE_LIMITS);
+        refused("no chain", mo_bookings(tasks_s, 12, 3, chains, 13, places, 2, 0, 0, first, second, t, figures), MO_PLACES_OUTSIDE_LIMITS);
         memset(figures, 0xff, sizeof figures);
-        refused("five chains", mo_bookings(tasks_s, 12, 3, many, 61, ones, 5, 5, first, second, t, figures), MO_PLACES_OUTSIDE_LIMITS);
+        refused("five chains", mo_bookings(tasks_s, 12, 3, many, 61, ones, 5, 5, 0, first, second, t, figures), MO_PLACES_OUTSIDE_LIMITS);
         memset(figures, 0xff, sizeof figures);
-        refused("lists too short", mo_bookings(tasks_s, 12, 3, chains, 12, places, 2, 2, first, second, t, figures), MO_PLACES_OUTSIDE_LIMITS);
+        refused("lists too short", mo_bookings(tasks_s, 12, 3, chains, 12, places, 2, 2, 0, first, second, t, figures), MO_PLACES_OUTSIDE_LIMITS);
         refused("a duration of 0", pair(fault, first, second, t), CODE(MO_TASK_OUTSIDE_LIMITS, 3));
+        refused("a duration of 0, before gap 1,001", pair_with(fault, 1001, first, second, t), CODE(MO_TASK_OUTSIDE_LIMITS, 3));
+        refused("gap 1,001", pair_with(tasks_s, 1001, first, second, t), CODE(MO_TASK_OUTSIDE_LIMITS, 0));
+        refused("the largest gap, before a chain above the limit", pair_with(tasks_too_long, UINT64_MAX, first, second, t),
+                CODE(MO_TASK_OUTSIDE_LIMITS, 0));
+        memset(figures, 0xff, sizeof figures);
+        refused("gap 1,001, before an unknown task",
+                mo_bookings(tasks_s, 12, 1, unknown, 25, places_unknown, 3, 3, 1001, first, second, t, figures), CODE(MO_TASK_OUTSIDE_LIMITS, 0));
+        memset(figures, 0xff, sizeof figures);
+        refused("no chain, before gap 1,001", mo_bookings(tasks_s, 12, 3, chains, 13, places, 2, 0, 1001, first, second, t, figures),
+                MO_PLACES_OUTSIDE_LIMITS);
         memset(figures, 0xff, sizeof figures);
         refused("an unknown task in the second of three chains",
-                mo_bookings(tasks_s, 12, 1, unknown, 25, places_unknown, 3, 3, first, second, t, figures), CODE(MO_TASK_UNKNOWN, 2));
+                mo_bookings(tasks_s, 12, 1, unknown, 25, places_unknown, 3, 3, 0, first, second, t, figures), CODE(MO_TASK_UNKNOWN, 2));
     }
 }
 
 int main(void)
 {
     check_bookings();
+    check_gaps();
     check_one_chain();
     check_refusals();
     check_schedules();

@@ -62,7 +62,9 @@ static void check_delays(void)
     expect("A at 200,001 ticks, wrong ones", wrong, 0);
     expect("the least delay", read_one(5, 11, 10, 14), 2);
     expect("the first start at its limit", read_one(1000000000, 13, 12, 1000000000), 13);
-    expect("latency and H near their limits", read_one(0, 60000000, 59999999, 59999998), 2);
+    expect("latency and H near 60,000,000", read_one(0, 60000000, 59999999, 59999998), 2);
+    expect("latency and H at their limits", read_one(0, 60011000, 60000000, 0), 60011000);
+    expect("latency and H at their limits, the last tick", read_one(0, 60011000, 60000000, 59999999), 11001);
 }
 
 static void check_refused_tables(void)
@@ -81,14 +83,17 @@ static void check_refused_tables(void)
     expect("H just above the last start", read_as(3, 3, 2, 9), 18);
     expect("H as long as the last latency", read_as(3, 3, 2, 24), not_well_formed);
     expect("H above its limit", read_one(0, 60000000, 60000001, 0), not_well_formed);
+    expect("H above its limit, the latency above it", read_one(0, 60011000, 60000001, 0), not_well_formed);
     expect("H the largest number", read_as(3, 3, 2, UINT64_MAX), not_well_formed);
     expect("equal starts", read_two(4, 9, 4, 9, 6), not_well_formed);
     expect("a third start below the second", read_as(3, 3, 3, 12), not_well_formed);
     expect("a latency of the distance", read_two(4, 3, 7, 9, 6), not_well_formed);
     expect("a latency above the distance", read_two(4, 4, 7, 9, 6), 4);
     expect("the last latency of its distance", read_two(4, 4, 7, 3, 6), not_well_formed);
-    expect("a latency above its limit", read_one(0, 60000001, 12, 0), not_well_formed);
-    expect("a latency at its limit", read_one(0, 60000000, 12, 0), 60000000);
+    expect("a latency above its limit", read_one(0, 60011001, 12, 0), not_well_formed);
+    expect("a latency above its limit, H at its own", read_one(0, 60011001, 60000000, 0), not_well_formed);
+    expect("a latency at its limit", read_one(0, 60011000, 12, 0), 60011000);
+    expect("a latency of 60,000,001", read_one(0, 60000001, 12, 0), 60000001);
     expect("the first start above its limit", read_one(1000000001, 13, 12, 1000000001), not_well_formed);
     expect("the largest numbers", read_two(UINT64_MAX - 1, UINT64_MAX, UINT64_MAX, UINT64_MAX, UINT64_MAX), not_well_formed);
 }

@@ -35,10 +35,12 @@ static size_t depth(void (*f)(void))
 
 /* ---- what the calls are given: twelve places, long numbers, and every way that ends late */
 
-static uint64_t tasks[36], flat[36], numbered[128], chains[48], places[4], jobs[12], counts[2], figures[4], both[4];
+static uint64_t tasks[36], flat[36], numbered[128], chains[48], places[4], jobs[12], counts[3], figures[4], both[4];
 static uint64_t starts[1024], latencies[1024];
 static uint64_t a, b;
-static uint8_t file[692], text[MO_LONGEST_REPORT];
+/* The longest gap, so that a file has its record and every link waits. */
+static const uint64_t gap = 1000;
+static uint8_t file[698], text[MO_LONGEST_REPORT];
 static size_t file_length;
 
 static void put(uint64_t value, int bytes)
@@ -49,7 +51,7 @@ static void put(uint64_t value, int bytes)
     }
 }
 
-/* Thirty-two tasks and four chains of twelve places: the longest file. The hyperperiods, also that of two chains together, are the greatest
+/* Thirty-two tasks, four chains of twelve places and a gap: the longest file. The hyperperiods, also that of two chains together, are the greatest
  * there is, and the durations too, so that the area of the mean has as many digits as any: a number is written by a call for each digit. */
 static void prepare(void)
 {
@@ -68,6 +70,7 @@ static void prepare(void)
     }
     for (size_t i = 0; i < 12; i++)
         memcpy(tasks + 3 * i, numbered + 4 * (20 + i) + 1, 3 * sizeof *tasks);
+    put(6, 2), put(4, 2), put(gap, 2);
     put(4, 2), put(3, 2);
 }
 
@@ -80,11 +83,11 @@ static size_t mean_digits(void)
 }
 
 static void nothing(void) { }
-static void check(void) { mo_check(tasks, 36, 12, &a); }
-static void warm_up(void) { mo_warm_up(tasks, 36, 12, jobs, &a, &b); }
-static void delay(void) { mo_delay(tasks, 36, 12, 999999999999u, &a); }
-static void age(void) { mo_age(tasks, 36, 12, 999999999999u, &a); }
-static void make_table(void) { mo_make_table(tasks, 36, 12, 7, starts, 1024, latencies, 1024, figures); }
+static void check(void) { mo_check(tasks, 36, 12, gap, &a); }
+static void warm_up(void) { mo_warm_up(tasks, 36, 12, gap, jobs, &a, &b); }
+static void delay(void) { mo_delay(tasks, 36, 12, gap, 999999999999u, &a); }
+static void age(void) { mo_age(tasks, 36, 12, gap, 999999999999u, &a); }
+static void make_table(void) { mo_make_table(tasks, 36, 12, gap, 7, starts, 1024, latencies, 1024, figures); }
 static void read_table(void) { a = mo_read_table(starts, 1024, latencies, 1024, figures[0], figures[2], 999999999999u); }
 static void greatest(void) { mo_greatest(starts, 1024, latencies, 1024, figures[0], figures[2], &a); }
 static void low(void) { mo_low(starts, 1024, latencies, 1024, figures[0], figures[2], &a); }
@@ -92,11 +95,11 @@ static void mean(void) { mo_mean(starts, 1024, latencies, 1024, figures[0], figu
 static void throughput(void) { mo_throughput(starts, 1024, latencies, 1024, figures[0], figures[2], &a, &b); }
 static void exceedance(void) { mo_exceedance(starts, 1024, latencies, 1024, figures[0], figures[2], 48000000, &a, &b); }
 /* A bound that some jobs miss and no 100 in a row, so that the call looks twice. */
-static void windows(void) { mo_windows(tasks, 36, 12, 48234600, 100, &a, &b); }
+static void windows(void) { mo_windows(tasks, 36, 12, gap, 48235600, 100, &a, &b); }
 static void read_file(void) { mo_read_file(file, file_length, numbered, chains, places, counts); }
-static void write_file(void) { mo_write_file(numbered, 128, 32, chains, 48, places, 4, 4, text, sizeof text, &a); }
-static void chain_of_schedule(void) { mo_chain_of_schedule(numbered, 128, 32, chains, 48, places, 4, 4, 4, flat, &b); }
-static void bookings(void) { mo_bookings(numbered, 128, 32, chains, 48, places, 4, 4, 1, 4, 999999999999u, both); }
+static void write_file(void) { mo_write_file(numbered, 128, 32, chains, 48, places, 4, 4, gap, text, sizeof text, &a); }
+static void chain_of_schedule(void) { mo_chain_of_schedule(numbered, 128, 32, chains, 48, places, 4, 4, gap, 4, flat, &b); }
+static void bookings(void) { mo_bookings(numbered, 128, 32, chains, 48, places, 4, 4, gap, 1, 4, 999999999999u, both); }
 static void report(void) { a = mo_report(file, file_length, text, sizeof text); }
 
 /* A call's depth below that of an empty function is at most what the header says, and not much less. */
@@ -117,7 +120,7 @@ static void held(const char *what, void (*f)(void), size_t said)
 int main(void)
 {
     prepare();
-    expect("bytes of the file", file_length, 692);
+    expect("bytes of the file", file_length, 698);
     held("mo_check", check, MO_STACK_CHECK);
     held("mo_warm_up", warm_up, MO_STACK_WARM_UP);
     held("mo_delay", delay, MO_STACK_DELAY);
@@ -132,9 +135,11 @@ int main(void)
     held("mo_throughput", throughput, MO_STACK_FIGURES);
     held("mo_exceedance", exceedance, MO_STACK_FIGURES);
     held("mo_windows", windows, MO_STACK_WINDOWS);
+    expect("some jobs miss, and no 100 in a row", a > 0 && a < 100, 1);
     held("mo_read_file", read_file, MO_STACK_READ_FILE);
+    expect("the gap that was read", counts[2], gap);
     held("mo_write_file", write_file, MO_STACK_WRITE_FILE);
-    expect("file written", a, 692);
+    expect("file written", a, 698);
     held("mo_chain_of_schedule", chain_of_schedule, MO_STACK_CHAIN_OF_SCHEDULE);
     expect("places of the chain", b, 12);
     held("mo_bookings", bookings, MO_STACK_BOOKINGS);

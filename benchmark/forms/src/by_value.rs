@@ -1,4 +1,4 @@
-//! The chain as a struct of twelve tasks and a count, passed by value from function to function.
+//! The chain as a struct of twelve tasks, a count and the gap, passed by value from function to function.
 //! rustc would leave the copies out, since no function changes its chain. `received` makes it copy, at the calls where the crates copied while they had this form, and at the outset, which came later.
 use plain::anchors::Anchors;
 use plain::maker::{Figures, Made};
@@ -6,13 +6,14 @@ use plain::outset::places_at;
 use plain::stepping::{Place, State};
 use plain::task::Task;
 use plain::windows::most_of;
-use plain::{Refusal, HYPERPERIOD_LIMIT, UPPER_TICK};
+use plain::{Refusal, GAP_LIMIT, HYPERPERIOD_LIMIT, UPPER_TICK};
 use std::hint::black_box;
 
 #[derive(Clone, Copy)]
 pub struct Chain {
     pub tasks: [Task; 12],
     pub places: usize,
+    pub gap: u64,
 }
 
 /// A chain that something unknown may look at and change must be a copy.
@@ -32,13 +33,13 @@ fn task_at(list: &[u64], i: usize) -> Task {
     Task { period: list[at], duration: list[at + 1], phase: list[at + 2] }
 }
 
-pub fn chain_from(list: &[u64], places: usize) -> Chain {
+pub fn chain_from(list: &[u64], places: usize, gap: u64) -> Chain {
     let mut tasks = [Task { period: 0, duration: 0, phase: 0 }; 12];
     for (i, task) in tasks.iter_mut().enumerate() {
         *task = task_at(list, i);
     }
     let places = if list.len() % 3 != 0 || list.len() / 3 < places { 0 } else { places };
-    Chain { tasks, places }
+    Chain { tasks, places, gap }
 }
 
 fn gcd(a: u64, b: u64) -> u64 {
@@ -80,6 +81,9 @@ fn check(c: Chain) -> Result<u64, Refusal> {
     if place != 0 {
         return Err(refusal(5, place));
     }
+    if GAP_LIMIT < c.gap {
+        return Err(refusal(5, 0));
+    }
     hyper_verdict(c)
 }
 
@@ -90,7 +94,7 @@ fn forward(c: Chain, p: usize, q: usize, job: u64) -> u64 {
     while i < q {
         let a = c.tasks[i];
         i += 1;
-        k = a.forward_to(&c.tasks[i], k);
+        k = a.forward_to(c.gap, &c.tasks[i], k);
     }
     k
 }
@@ -102,7 +106,7 @@ fn backward(c: Chain, p: usize, q: usize, job: u64) -> Option<u64> {
     while p < i {
         let b = c.tasks[i];
         i -= 1;
-        k = b.backward_to(&c.tasks[i], k)?;
+        k = b.backward_to(c.gap, &c.tasks[i], k)?;
     }
     Some(k)
 }
@@ -119,7 +123,7 @@ fn warm_jobs(c: Chain) -> [u64; 12] {
     while 0 < i {
         let b = c.tasks[i];
         i -= 1;
-        k = b.backward_to(&c.tasks[i], k).unwrap_or(0);
+        k = b.backward_to(c.gap, &c.tasks[i], k).unwrap_or(0);
         jobs[i] = k;
     }
     jobs
@@ -170,7 +174,7 @@ pub fn age(c: Chain, z: u64) -> Result<u64, Refusal> {
 
 fn outset(c: Chain, p: usize, job: u64) -> [Place; 12] {
     received(&c);
-    places_at(&c.tasks[..c.places], p, job)
+    places_at(&c.tasks[..c.places], c.gap, p, job)
 }
 
 fn fill(c: Chain, p: usize, from: u64, n: u64, past: u64, anchors: Anchors) -> usize {

@@ -21,38 +21,38 @@ struct Stretch {
 
 impl Stretch {
     /// Forward to the booking, and back to the first place's latest job that is booked no later.
-    fn at(tasks: &[Task], t: u64) -> Self {
-        let job = forward(tasks, tasks[0].earliest_after(t));
-        Stretch { booking: last(tasks).write(job), until: tasks[0].read(backward(tasks, job).unwrap_or(0)) }
+    fn at(tasks: &[Task], gap: u64, t: u64) -> Self {
+        let job = forward(tasks, gap, tasks[0].earliest_after(t));
+        Stretch { booking: last(tasks).write(job), until: tasks[0].read(backward(tasks, gap, job).unwrap_or(0)) }
     }
 }
 
 /// The greatest difference at the ticks from `from` to below `end`, from stretch to stretch.
-fn greatest_apart(first: &[Task], second: &[Task], from: u64, end: u64) -> u64 {
-    let mut a = Stretch::at(first, from);
-    let mut b = Stretch::at(second, from);
+fn greatest_apart(first: &[Task], gap1: u64, second: &[Task], gap2: u64, from: u64, end: u64) -> u64 {
+    let mut a = Stretch::at(first, gap1, from);
+    let mut b = Stretch::at(second, gap2, from);
     let mut most = 0;
     let mut t = from;
     while t < end {
         most = most.max(a.booking.abs_diff(b.booking));
         t = a.until.min(b.until);
         if a.until <= t {
-            a = Stretch::at(first, t);
+            a = Stretch::at(first, gap1, t);
         }
         if b.until <= t {
-            b = Stretch::at(second, t);
+            b = Stretch::at(second, gap2, t);
         }
     }
     most
 }
 
 /// The checks of both chains and of the tick; the later warm-up tick and the common hyperperiod.
-pub fn check_pair(first: &[Task], second: &[Task], t: u64) -> Result<(u64, u64), Refusal> {
-    let h = lcm(check(first)?, check(second)?);
+pub fn check_pair(first: &[Task], gap1: u64, second: &[Task], gap2: u64, t: u64) -> Result<(u64, u64), Refusal> {
+    let h = lcm(check(first, gap1)?, check(second, gap2)?);
     if HYPERPERIOD_LIMIT < h {
         return Err(Refusal::new(7));
     }
-    let from = warm_tick(first).max(warm_tick(second));
+    let from = warm_tick(first, gap1).max(warm_tick(second, gap2));
     if t < from {
         return Err(Refusal::new(12));
     }
@@ -62,12 +62,12 @@ pub fn check_pair(first: &[Task], second: &[Task], t: u64) -> Result<(u64, u64),
     Ok((from, h))
 }
 
-/// The bookings of a press at a tick by two chains.
-pub fn pair(first: &[Task], second: &[Task], t: u64) -> Result<Bookings, Refusal> {
-    let (from, h) = check_pair(first, second, t)?;
-    let a = Stretch::at(first, t).booking;
-    let b = Stretch::at(second, t).booking;
-    Ok(Bookings { later: a.max(b), earlier: a.min(b), difference: a.abs_diff(b), greatest: greatest_apart(first, second, from, from + h) })
+/// The bookings of a press at a tick by two chains, each with the gap of its links.
+pub fn pair(first: &[Task], gap1: u64, second: &[Task], gap2: u64, t: u64) -> Result<Bookings, Refusal> {
+    let (from, h) = check_pair(first, gap1, second, gap2, t)?;
+    let a = Stretch::at(first, gap1, t).booking;
+    let b = Stretch::at(second, gap2, t).booking;
+    Ok(Bookings { later: a.max(b), earlier: a.min(b), difference: a.abs_diff(b), greatest: greatest_apart(first, gap1, second, gap2, from, from + h) })
 }
 
 /// The same for two chains of a schedule by their numbers.
@@ -75,5 +75,5 @@ pub fn pair_of(schedule: &Schedule, first: usize, second: usize, t: u64) -> Resu
     schedule.check()?;
     let first = schedule.chain(first)?;
     let second = schedule.chain(second)?;
-    pair(first.tasks(), second.tasks(), t)
+    pair(first.tasks(), schedule.gap, second.tasks(), schedule.gap, t)
 }

@@ -1,7 +1,7 @@
 //! The checks of a chain, its hyperperiod, and the ways forward and backward along its places, counted from 0.
 use crate::division::{quotient, remainder};
 use crate::task::Task;
-use crate::{Refusal, HYPERPERIOD_LIMIT, MOST_PLACES};
+use crate::{Refusal, GAP_LIMIT, HYPERPERIOD_LIMIT, MOST_PLACES};
 
 fn gcd(mut a: u64, mut b: u64) -> u64 {
     while b != 0 {
@@ -14,13 +14,16 @@ pub(crate) fn lcm(a: u64, b: u64) -> u64 {
     quotient(a, gcd(a, b)) * b
 }
 
-/// The checks 8, 5 and 7; the hyperperiod of an accepted chain.
-pub fn check(tasks: &[Task]) -> Result<u64, Refusal> {
+/// The checks 8, 5, that of the gap last, and 7; the hyperperiod of an accepted chain.
+pub fn check(tasks: &[Task], gap: u64) -> Result<u64, Refusal> {
     if tasks.is_empty() || MOST_PLACES < tasks.len() {
         return Err(Refusal::new(8));
     }
     if let Some(at) = tasks.iter().position(|task| !task.within_limits()) {
         return Err(Refusal { number: 5, place: at + 1 });
+    }
+    if GAP_LIMIT < gap {
+        return Err(Refusal::new(5));
     }
     let mut h = 1;
     for task in tasks {
@@ -33,11 +36,11 @@ pub fn check(tasks: &[Task]) -> Result<u64, Refusal> {
 }
 
 /// From a job at the first of these places forward to the last.
-pub fn forward(tasks: &[Task], job: u64) -> u64 {
-    tasks.windows(2).fold(job, |job, link| link[0].forward_to(&link[1], job))
+pub fn forward(tasks: &[Task], gap: u64, job: u64) -> u64 {
+    tasks.windows(2).fold(job, |job, link| link[0].forward_to(gap, &link[1], job))
 }
 
 /// From a job at the last of these places backward to the first; there may be none.
-pub fn backward(tasks: &[Task], job: u64) -> Option<u64> {
-    tasks.windows(2).rev().try_fold(job, |job, link| link[1].backward_to(&link[0], job))
+pub fn backward(tasks: &[Task], gap: u64, job: u64) -> Option<u64> {
+    tasks.windows(2).rev().try_fold(job, |job, link| link[1].backward_to(gap, &link[0], job))
 }

@@ -1,5 +1,5 @@
 //! The program of the crates in plain Rust, to measure against: the same checks in the same order, the same algorithms, u64 arithmetic.
-//! A chain is a slice of tasks, one for each place, and is lent, never copied; out of a schedule it is taken once. Nothing here is proved.
+//! A chain is a slice of tasks, one for each place, and the gap of its links. The slice is lent, never copied; out of a schedule it is taken once. Nothing here is proved.
 pub mod anchors;
 pub mod bookings;
 pub mod chain;
@@ -14,6 +14,7 @@ pub mod timing;
 pub mod windows;
 
 pub const MOST_PLACES: usize = 12;
+pub const GAP_LIMIT: u64 = 1000;
 pub const HYPERPERIOD_LIMIT: u64 = 60_000_000;
 pub const UPPER_TICK: u64 = 1_000_000_000_000;
 

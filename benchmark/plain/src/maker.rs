@@ -35,8 +35,8 @@ pub struct Round {
     pub past: u64,
 }
 
-fn walk(tasks: &[Task], round: Round, anchors: Anchors) -> usize {
-    let mut places = places_at(tasks, round.cut, round.job);
+fn walk(tasks: &[Task], gap: u64, round: Round, anchors: Anchors) -> usize {
+    let mut places = places_at(tasks, gap, round.cut, round.job);
     let places = &mut places[..tasks.len()];
     if 1 < round.count {
         places.iter_mut().for_each(|place| place.prepare());
@@ -46,8 +46,8 @@ fn walk(tasks: &[Task], round: Round, anchors: Anchors) -> usize {
 
 /// The table of a chain cut at place p, p counted from 1, by a walk over its partitions that gives the number of their anchors.
 #[inline]
-pub fn make_table_by(walk: impl Fn(&[Task], Round, Anchors) -> usize, tasks: &[Task], p: usize, starts: &mut [u64], latencies: &mut [u64]) -> Made {
-    let h = match check(tasks) {
+pub fn make_table_by(walk: impl Fn(&[Task], u64, Round, Anchors) -> usize, tasks: &[Task], gap: u64, p: usize, starts: &mut [u64], latencies: &mut [u64]) -> Made {
+    let h = match check(tasks, gap) {
         Err(refusal) => return Made::Refused(refusal),
         Ok(h) => h,
     };
@@ -58,11 +58,11 @@ pub fn make_table_by(walk: impl Fn(&[Task], Round, Anchors) -> usize, tasks: &[T
         return Made::Refused(Refusal::new(10));
     }
     let cut = p - 1;
-    let jobs = warm_jobs(tasks);
+    let jobs = warm_jobs(tasks, gap);
     let tick = tasks[0].read(jobs[0]);
     let walked = quotient(h, tasks[cut].period);
     let slots = starts.len();
-    let anchors = walk(tasks, Round { cut, job: jobs[cut], count: walked, past: tick + h }, Anchors::new(starts, latencies));
+    let anchors = walk(tasks, gap, Round { cut, job: jobs[cut], count: walked, past: tick + h }, Anchors::new(starts, latencies));
     let figures = Figures { anchors, tick, hyperperiod: h, walked };
     if anchors <= slots {
         Made::Whole(figures)
@@ -72,6 +72,6 @@ pub fn make_table_by(walk: impl Fn(&[Task], Round, Anchors) -> usize, tasks: &[T
 }
 
 /// The table of a chain cut at place p, p counted from 1.
-pub fn make_table(tasks: &[Task], p: usize, starts: &mut [u64], latencies: &mut [u64]) -> Made {
-    make_table_by(walk, tasks, p, starts, latencies)
+pub fn make_table(tasks: &[Task], gap: u64, p: usize, starts: &mut [u64], latencies: &mut [u64]) -> Made {
+    make_table_by(walk, tasks, gap, p, starts, latencies)
 }

@@ -19,10 +19,10 @@ impl Place {
         Place { period: task.period, job: quotient(ticks, task.period), rest: remainder(ticks, task.period), ..Place::NONE }
     }
 
-    /// On the way back: the latest job that writes at or before a tick.
+    /// On the way back: the latest job whose write and the gap are over by a tick.
     #[inline]
-    pub fn back(task: &Task, tick: u64) -> Self {
-        Place::since(task, tick - task.phase - task.duration)
+    pub fn back(task: &Task, gap: u64, tick: u64) -> Self {
+        Place::since(task, tick - task.phase - task.duration - gap)
     }
 
     /// On the way on: the earliest job that reads at or after a tick.
@@ -41,15 +41,15 @@ impl Place {
 }
 
 /// The places of a chain cut at place p, counted from 0, at the partition of a job there. Only for more than one partition do they need their constants.
-pub fn places_at(tasks: &[Task], p: usize, job: u64) -> [Place; MOST_PLACES] {
+pub fn places_at(tasks: &[Task], gap: u64, p: usize, job: u64) -> [Place; MOST_PLACES] {
     let mut places = [Place::NONE; MOST_PLACES];
     places[p] = Place::cut(&tasks[p], job);
     for i in (0..p).rev() {
-        places[i] = Place::back(&tasks[i], tasks[i + 1].read(places[i + 1].job));
+        places[i] = Place::back(&tasks[i], gap, tasks[i + 1].read(places[i + 1].job));
     }
     let mut job = job + 1;
     for i in p + 1..tasks.len() {
-        places[i] = Place::on(&tasks[i], tasks[i - 1].write(job));
+        places[i] = Place::on(&tasks[i], tasks[i - 1].readable(gap, job));
         job = places[i].job;
     }
     places

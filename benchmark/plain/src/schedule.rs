@@ -1,6 +1,6 @@
-//! A schedule: tasks with their numbers, and chains as the task numbers at their places. Its checks, and the choice of a chain by its number.
+//! A schedule: tasks with their numbers, chains as the task numbers at their places, and the gap of their links. Its checks, and the choice of a chain by its number.
 use crate::task::Task;
-use crate::{Refusal, MOST_PLACES};
+use crate::{Refusal, GAP_LIMIT, MOST_PLACES};
 
 const MOST_TASKS: usize = 32;
 const MOST_CHAINS: usize = 4;
@@ -14,6 +14,7 @@ pub struct NumberedTask {
 pub struct Schedule {
     pub tasks: Vec<NumberedTask>,
     pub chains: Vec<Vec<u64>>,
+    pub gap: u64,
 }
 
 /// The tasks at the places of a chain.
@@ -39,7 +40,7 @@ impl Schedule {
             && self.chains.iter().all(|chain| (1..=MOST_PLACES).contains(&chain.len()))
     }
 
-    /// The checks 8, 5 and 6.
+    /// The checks 8, 5, that of the gap last, and 6.
     pub fn check(&self) -> Result<(), Refusal> {
         if !self.counts_right() {
             return Err(Refusal::new(8));
@@ -50,6 +51,9 @@ impl Schedule {
                 return Err(Refusal { number: 5, place: at + 1 });
             }
             before = numbered.number;
+        }
+        if GAP_LIMIT < self.gap {
+            return Err(Refusal::new(5));
         }
         for chain in &self.chains {
             if let Some(at) = chain.iter().position(|&number| self.find(number).is_none()) {

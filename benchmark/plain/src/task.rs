@@ -1,4 +1,4 @@
-//! Tasks and their jobs: when a job reads and writes, and which job reads or writes around a tick.
+//! Tasks and their jobs: when a job reads and writes, when the next place can read what it wrote, and which job reads or writes around a tick.
 use crate::division::quotient;
 
 #[derive(Clone, Copy, Debug)]
@@ -26,6 +26,12 @@ impl Task {
         self.read(job) + self.duration
     }
 
+    /// The tick from which on the next place can read what a job wrote.
+    #[inline]
+    pub fn readable(&self, gap: u64, job: u64) -> u64 {
+        self.write(job) + gap
+    }
+
     /// The earliest job that reads at or after a tick.
     #[inline]
     pub fn earliest_from(&self, tick: u64) -> u64 {
@@ -44,22 +50,28 @@ impl Task {
         quotient(tick - self.phase, self.period) + 1
     }
 
+    /// The latest job whose read is `ticks` ticks or more before a tick, if there is one.
+    #[inline]
+    fn latest_over(&self, ticks: u64, tick: u64) -> Option<u64> {
+        let since = tick.checked_sub(self.phase)?.checked_sub(ticks)?;
+        Some(quotient(since, self.period))
+    }
+
     /// The latest job that writes at or before a tick, if there is one.
     #[inline]
     pub fn latest_by(&self, tick: u64) -> Option<u64> {
-        let since = tick.checked_sub(self.phase)?.checked_sub(self.duration)?;
-        Some(quotient(since, self.period))
+        self.latest_over(self.duration, tick)
     }
 
     /// Forward over one link.
     #[inline]
-    pub fn forward_to(&self, next: &Task, job: u64) -> u64 {
-        next.earliest_from(self.write(job))
+    pub fn forward_to(&self, gap: u64, next: &Task, job: u64) -> u64 {
+        next.earliest_from(self.readable(gap, job))
     }
 
     /// Backward over one link.
     #[inline]
-    pub fn backward_to(&self, previous: &Task, job: u64) -> Option<u64> {
-        previous.latest_by(self.read(job))
+    pub fn backward_to(&self, gap: u64, previous: &Task, job: u64) -> Option<u64> {
+        previous.latest_over(previous.duration + gap, self.read(job))
     }
 }

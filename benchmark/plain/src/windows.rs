@@ -8,8 +8,8 @@ use crate::Refusal;
 const LARGEST_WINDOW: usize = 100;
 
 /// 1 where a job of the first place misses, else 0.
-fn missed(tasks: &[Task], bound: u64, job: u64) -> u64 {
-    let end = tasks[tasks.len() - 1].write(forward(tasks, job));
+fn missed(tasks: &[Task], gap: u64, bound: u64, job: u64) -> u64 {
+    let end = tasks[tasks.len() - 1].write(forward(tasks, gap, job));
     (bound < end - tasks[0].read(job)) as u64
 }
 
@@ -49,11 +49,11 @@ pub fn most_of(missed: impl Fn(u64) -> u64, k: u64, from: u64, last: u64) -> (u6
 }
 
 /// The largest number of misses and the earliest first job of a window with that many.
-pub fn most_misses(tasks: &[Task], bound: u64, k: u64) -> Result<(u64, u64), Refusal> {
-    let h = check(tasks)?;
+pub fn most_misses(tasks: &[Task], gap: u64, bound: u64, k: u64) -> Result<(u64, u64), Refusal> {
+    let h = check(tasks, gap)?;
     if k < 1 || (LARGEST_WINDOW as u64) < k {
         return Err(Refusal::new(15));
     }
-    let before = warm_jobs(tasks)[0];
-    Ok(most_of(|job| missed(tasks, bound, job), k, before + 1, before + quotient(h, tasks[0].period)))
+    let before = warm_jobs(tasks, gap)[0];
+    Ok(most_of(|job| missed(tasks, gap, bound, job), k, before + 1, before + quotient(h, tasks[0].period)))
 }

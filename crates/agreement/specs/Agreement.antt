@@ -1,5 +1,5 @@
 -- The third demand, sentence by sentence, about every chain whose array has its twelve entries. A table is completed where making is
--- not refused; it is read with the g and H that making answered and the lists as making left them, whatever they held before and hold from g on.
+-- not refused; it is read with the g and H that making answered and the lists as making left them, whatever they held before and hold from g on. Order 5 of document 02: "The agreement of walk, age and tables is for chains with any permitted gap." The gap is a field of the chain, and what refuses it, 5, is one of its checks.
 use Prim.Native.Nat.{ℕ, zero, suc, _≤_, _<_}
 use native.Mathlib.Omega.{arith}
 use mathlib.Core.Path.{_≡_, refl, sym, ap, _∙_, subst}

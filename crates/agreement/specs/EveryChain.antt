@@ -1,4 +1,4 @@
--- "For every accepted chain", with no premise on what making answers: a chain that 8, 5 and 7 accept, cut at one of its places, has its table completed
+-- "For every accepted chain", with any permitted gap (order 5), with no premise on what making answers: a chain that 8, 5 and 7 accept, cut at one of its places, has its table completed
 -- in any two lists of equal length that hold its g anchors (`completes`). Lists of H / T entries do, T being the period at any place (`room-enough`); the least of these numbers is that of the longest period.
 use Prim.Native.Nat.{ℕ, _-_, _/_, _≤_, _<_}
 use native.Mathlib.Omega.{arith}

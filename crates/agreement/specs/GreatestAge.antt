@@ -6,7 +6,7 @@ use native.Mathlib.Decide.{decLt}
 use native.Mathlib.Omega.{arith}
 use mathlib.Core.Path.{_≡_, refl, sym, ap, _∙_}
 use mathlib.Core.List.{List}
-use Rattle.task.specs.declared.Task.{Task}
+use Rattle.task.specs.declared.Place.{Place}
 use Rattle.task.specs.declared.Latest.{Latest}
 use Rattle.task.specs.declared.Latest.the-variants.{Of, Nothing}
 use Rattle.task.specs.Jobs.{readOf, writeOf}
@@ -49,7 +49,7 @@ exact (Of i) k h g = go (i .0) (eq (i .0) h g)
     go x e = ap (λ (y : ℕ). Of (record { 0 = y })) e
 exact Nothing k h g = absurd h
 
-module _ (l : List Task) (ok : Sound l) (small : hyperOf l ≤ 60000000) where
+module _ (l : List Place) (ok : Sound l) (small : hyperOf l ≤ 60000000) where
   abbrev pub top : ℕ
   top = greatest (canonical l (hyperOf l))
 
@@ -83,7 +83,7 @@ module _ (l : List Task) (ok : Sound l) (small : hyperOf l ≤ 60000000) where
   unfolding tick
   tick-high = omega (arith, mod-lt (reached .at - warmTick l) (hyper-pos l ok))
 
-  pub warm-small : warmTick l ≤ 60000000
+  pub warm-small : warmTick l ≤ 60011000
   unfolding warmTick
   warm-small = warm-range l ok 0 (ok .some)
 
@@ -209,7 +209,7 @@ module _ (l : List Task) (ok : Sound l) (small : hyperOf l ≤ 60000000) where
     unfolding firstAged
     peak-low = omega (arith, peak-is, write-less (at l (lastPlace l)) last-pos (walk l 0) (walk l (suc j)) (walk-after l ok j j-warm), ap (writeOf (at l (lastPlace l))) (warm-walk l ok))
 
-  pub top-fits : top ≤ 60000000
+  pub top-fits : top ≤ 60011000
   top-fits = omega (arith, latency-fits l ok (j tick tick-low tick-meets) (j-warm tick tick-low tick-meets), u-delay tick tick-low tick-meets, u-reads tick tick-low tick-meets)
 
   pub greatest-age-is : GreatestWithin (λ z. suc (ageAt l z)) (firstAged l) 1000000000000 top

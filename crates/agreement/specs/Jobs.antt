@@ -5,8 +5,8 @@ use native.Mathlib.Decide.{decLt}
 use mathlib.Core.Path.{_≡_}
 use mathlib.Core.Bool.{true}
 use mathlib.Core.List.{List}
-use Rattle.task.specs.declared.Task.{Task}
-use Rattle.task.specs.Jobs.{readOf, writeOf, Within}
+use Rattle.task.specs.declared.Place.{Place}
+use Rattle.task.specs.Jobs.{readOf, writeOf, Limited}
 use Rattle.task.specs.Links.{earliestAfter}
 use Rattle.task.specs.LinkLaws.{after-less, read-mono, forward-link-mono, forward-wait}
 use Rattle.chain.specs.Chains.{at, lastPlace, forwardBy, walk}
@@ -22,8 +22,8 @@ use Rattle.partition.specs.Selections.{differ, differ-so}
 use Rattle.partition.specs.CutFree.{endWalk, write-less}
 
 -- jobs of a lower place forward: where a walk comes later, each of its links came later
-module _ (l : List Task) where
-  rises : (n i j : ℕ) → ((k : ℕ) → k ≤ suc n → Within (at l k)) → forwardBy l 0 (suc n) i < forwardBy l 0 (suc n) j → forwardBy l 0 n i < forwardBy l 0 n j
+module _ (l : List Place) where
+  rises : (n i j : ℕ) → ((k : ℕ) → k ≤ suc n → Limited (at l k)) → forwardBy l 0 (suc n) i < forwardBy l 0 (suc n) j → forwardBy l 0 n i < forwardBy l 0 n j
   unfolding forwardBy
   rises n i j w h = elim (decLt (forwardBy l 0 n i) (forwardBy l 0 n j)) [
     | yes g ↦ g
@@ -32,22 +32,22 @@ module _ (l : List Task) where
         absurd (omega arith)
   ]
 
-  -- so each wait is below a period, and the whole walk within its durations and periods
-  soon : (n i j : ℕ) → ((k : ℕ) → k ≤ n → Within (at l k)) → forwardBy l 0 n i < forwardBy l 0 n j
-      → writeOf (at l (0 + n)) (forwardBy l 0 n j) ≤ readOf (at l 0) j + 4000000 + n * 4999999
+  -- so each wait is below a period, and the whole walk within its durations, gaps and periods
+  soon : (n i j : ℕ) → ((k : ℕ) → k ≤ n → Limited (at l k)) → forwardBy l 0 n i < forwardBy l 0 n j
+      → writeOf (at l (0 + n)) (forwardBy l 0 n j) ≤ readOf (at l 0) j + 4000000 + n * 5000999
   unfolding forwardBy
   soon zero i j w h = let e : 0 + 0 ≡ 0 = omega arith in rw e (omega (arith, w 0 (omega arith) .duration-max))
   soon (suc n) i j w h =
       let b = w (0 + suc n) (omega arith) in
       let u = forward-wait (at l (0 + n)) (at l (0 + suc n)) (b .period-pos) (forwardBy l 0 n j) (omega arith) in
       let v = soon n i j (λ k g. w k (omega arith)) (rises n i j w h) in
-      omega (arith, b .period-max, b .duration-max)
+      omega (arith, b .period-max, b .duration-max, w (0 + n) (omega arith) .gap-max)
 
-module _ (l : List Task) (ok : Sound l) where
-  first : Within (at l 0)
+module _ (l : List Place) (ok : Sound l) where
+  first : Limited (at l 0)
   first = ok .each 0 (ok .some)
 
-  last : Within (at l (lastPlace l))
+  last : Limited (at l (lastPlace l))
   last = ok .each (lastPlace l) (omega (arith, ok .some))
 
   -- W1's way ends where job 0's does, and that of the job after W1 later
@@ -77,8 +77,8 @@ module _ (l : List Task) (ok : Sound l) where
       let u = write-less (at l (lastPlace l)) (last .period-pos) (walk l (warmAt l 0)) (walk l (suc (warmAt l 0))) (omega (arith, walk-warm, walk-next)) in
       differ-so (endWalk l (suc (warmAt l 0))) (endWalk l (warmAt l 0)) (λ e. omega arith)
 
-  -- a latency is at most 60,000,000
-  pub latency-fits : (j : ℕ) → warmAt l 0 ≤ j → endWalk l (suc j) - readOf (at l 0) j ≤ 60000000
+  -- a latency is within the limit that order 5 gives it
+  pub latency-fits : (j : ℕ) → warmAt l 0 ≤ j → endWalk l (suc j) - readOf (at l 0) j ≤ 60011000
   latency-fits j h =
       let z : 0 + lastPlace l ≡ lastPlace l = omega arith in
       let s = soon l (lastPlace l) 0 (suc j) (λ k g. ok .each k (omega (arith, ok .some))) (walk-after j h) in

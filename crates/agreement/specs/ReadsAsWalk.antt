@@ -8,7 +8,7 @@ use mathlib.Core.Bool.{Bool, true, false}
 use mathlib.Core.List.{List, _∷_, map}
 use lib.ListN.{length, length-map}
 use borrow.Author.Tests.{le-leb, lt-leb}
-use Rattle.task.specs.declared.Task.{Task}
+use Rattle.task.specs.declared.Place.{Place}
 use Rattle.task.specs.Jobs.{readOf}
 use Rattle.task.specs.Links.{earliestAfter}
 use Rattle.task.specs.LinkLaws.{after-less, read-mono}
@@ -60,7 +60,7 @@ module _ (w readAt : ℕ → ℕ) (rise : (i j : ℕ) → i ≤ j → readAt i �
       go true e p q = rw (le-leb (readAt y) u ry, lastAt) p
       go false e p q = q (differ-false (w (suc y)) (w y) e)
 
-module _ (l : List Task) (ok : Sound l) where
+module _ (l : List Place) (ok : Sound l) where
   -- the first anchor is that of W1
   abbrev pub firstAnchor : Anchor
   firstAnchor = anchorAt (endWalk l) (readOf (at l 0)) (warmAt l 0)
@@ -79,7 +79,7 @@ module _ (l : List Task) (ok : Sound l) where
       → gives u (lastAt u firstAnchor otherAnchors) ≡ delayAt l u
   unfolding delayAt
   read-job u J n lo hi =
-      let a : Task = at l 0 in
+      let a : Place = at l 0 in
       let pos = ok .each 0 (ok .some) .period-pos in
       let q : ℕ = hyperOf l / at l 0 .period in
       let W : ℕ = warmAt l 0 in
@@ -99,7 +99,7 @@ module _ (l : List Task) (ok : Sound l) where
   pub table-walk : (t : ℕ) → warmTick l ≤ t → table.delayAt (hyperOf l) (canonical l (hyperOf l)) t ≡ delayAt l t
   unfolding table.delayAt warmTick
   table-walk t h =
-      let a : Task = at l 0 in
+      let a : Place = at l 0 in
       let x : ℕ = readOf (at l 0) (warmAt l 0) in
       let m : (t - x) % hyperOf l < hyperOf l = mod-lt (t - x) (hyper-pos l ok) in
       let u : ℕ = x + (t - x) % hyperOf l in

@@ -5,7 +5,7 @@ use native.Mathlib.Omega.{arith}
 use mathlib.Core.Path.{_≡_, refl, _∙_}
 use mathlib.Core.Bool.{Bool, true, false}
 use mathlib.Core.List.{List, _∷_, map}
-use Rattle.task.specs.declared.Task.{Task}
+use Rattle.task.specs.declared.Place.{Place}
 use Rattle.task.specs.Jobs.{readOf}
 use Rattle.chain.specs.Chains.{at}
 use Rattle.chain.specs.Checks.{Sound}
@@ -21,7 +21,7 @@ use Rattle.partition.specs.CutFree.{endWalk, canonical}
 use Rattle.agreement.specs.Jobs.{hyper-first, some-job, end-after, latency-fits}
 use Rattle.agreement.specs.ReadsAsWalk.{firstAnchor, otherAnchors, canonical-cons}
 
-pub read-less : (a : Task) → 1 ≤ a .period → (i j : ℕ) → i < j → readOf a i < readOf a j
+pub read-less : (a : Place) → 1 ≤ a .period → (i j : ℕ) → i < j → readOf a i < readOf a j
 read-less a h i j l = omega (arith, mul-le-mul-right (a .period) l)
 
 module _ (w readAt : ℕ → ℕ) (W : ℕ) (rise : (i j : ℕ) → i < j → readAt i < readAt j) (after : (j : ℕ) → readAt j < w j)
@@ -42,7 +42,7 @@ module _ (w readAt : ℕ → ℕ) (W : ℕ) (rise : (i j : ℕ) → i < j → re
       go true k p q = (rise x s l, fits x h, omega (arith, after s, rise x s l), p)
       go false k p q = q (differ-false (w (suc s)) (w s) k)
 
-module _ (l : List Task) (ok : Sound l) where
+module _ (l : List Place) (ok : Sound l) where
   pub canonical-spaced : Spaced (readOf (at l 0) (warmAt l 0) + hyperOf l) (firstAnchor l ok ∷ otherAnchors l ok)
   canonical-spaced =
       rw again at

@@ -3,7 +3,7 @@ use Prim.Native.Nat.{ℕ, _+_, _-_, _≤_, _<_, max, min}
 use native.Mathlib.Omega.{arith}
 use mathlib.Core.Path.{_≡_, ap, _∙_}
 use mathlib.Core.List.{List}
-use Rattle.task.specs.declared.Task.{Task}
+use Rattle.task.specs.declared.Place.{Place}
 use Rattle.chain.specs.Checks.{Sound}
 use Rattle.ranges.specs.Largest.{largest}
 use Rattle.ranges.specs.LargestLaws.{largest-none, largest-step}
@@ -14,7 +14,7 @@ use Rattle.bookings.specs.Stretches.{untilOf, stretchAt, stretchOn, unti
 larger-on : (whole most rest d less new : ℕ) → whole ≡ max most rest → rest ≡ max d less → new ≡ max most d → whole ≡ max new less
 larger-on whole most rest d less new p q r = omega arith
 
-module _ (l m : List Task) (okl : Sound l) (okm : Sound m) (t : ℕ) (a b : Stretch) (first : a ≡ stretchAt l t) (second : b ≡ stretchAt m t)
+module _ (l m : List Place) (okl : Sound l) (okm : Sound m) (t : ℕ) (a b : Stretch) (first : a ≡ stretchAt l t) (second : b ≡ stretchAt m t)
     (u : ℕ) (next : u ≡ min (a .until .0) (b .until .0)) where
   ends : u ≡ min (untilOf l t) (untilOf m t)
   ends = next ∙ ap (λ (x : ℕ). min x (b .until .0)) (hand-until l okl t a first) ∙ ap (min (untilOf l t)) (hand-until m okm t b second)

@@ -9,7 +9,7 @@ use lib.Dec.{leb, ltb}
 use lib.ListN.{length}
 use borrow.Author.Tests.{leb-true, ltb-false, le-leb, le-ltb}
 use Rattle.refusal.specs.Refusals.{refusal}
-use Rattle.task.specs.declared.Task.{Task}
+use Rattle.task.specs.declared.Place.{Place}
 use Rattle.task.specs.declared.Tick.{Tick}
 use Rattle.chain.specs.declared.Chain.{Chain}
 use Rattle.chain.specs.declared.Verdict.{Verdict}
@@ -24,7 +24,7 @@ use Rattle.bookings.specs.declared.Bookings.the-variants.{Both, Refused}
 use Rattle.bookings.specs.Bookings.{bookingAt, apartAt, pairWarm, pairHyper, greatestApart, commonVerdict, afterBoth, bothAt, bookingsAfter, bookingsOf}
 use Rattle.bookings.specs.EveryPress.{apart-of-all, apart-reached}
 
-module _ (l m : List Task) where
+module _ (l m : List Place) where
   -- what an answer tells of the press and of the two chains
   record Answered (v w : Verdict) (t e g : ℕ) : Type 0 where
     own : ℕ

@@ -5,7 +5,7 @@ use native.Mathlib.Omega.{arith}
 use native.Mathlib.Nat.{mod-lt, div-add-mod', div-mul-cancel}
 use mathlib.Core.Path.{_≡_, _∙_}
 use mathlib.Core.List.{List}
-use Rattle.task.specs.declared.Task.{Task}
+use Rattle.task.specs.declared.Place.{Place}
 use Rattle.euclid.specs.LeastMultiple.{lcm-left, lcm-right, lcm-pos}
 use Rattle.chain.specs.Hyperperiod.{hyperOf}
 use Rattle.chain.specs.Multiples.{hyper-pos}
@@ -18,7 +18,7 @@ use Rattle.bookings.specs.Stretches.{booking-late, delay-booking}
 
 -- ---- of a chain that passes the checks 8 and 5
 
-module _ (l : List Task) (ok : Sound l) where
+module _ (l : List Place) (ok : Sound l) where
   -- a booking repeats with every multiple of the hyperperiod
   pub booking-period : (k t : ℕ) → warmTick l ≤ t → bookingAt l (t + k * hyperOf l) ≡ bookingAt l t + k * hyperOf l
   booking-period k t h =
@@ -30,7 +30,7 @@ module _ (l : List Task) (ok : Sound l) where
 -- ---- of two such chains
 
 -- a press within one common hyperperiod from the later warm-up has the greatest difference
-pub record Attained (l m : List Task) : Type 0 where
+pub record Attained (l m : List Place) : Type 0 where
   pub press : ℕ
   pub from : pairWarm l m ≤ press
   pub within : press < pairWarm l m + pairHyper l m
@@ -40,7 +40,7 @@ pub record Attained (l m : List Task) : Type 0 where
 apart-moved : (x y d : ℕ) → apartOf (x + d) (y + d) ≡ apartOf x y
 apart-moved x y d = omega arith
 
-module _ (l m : List Task) (okl : Sound l) (okm : Sound m) where
+module _ (l m : List Place) (okl : Sound l) (okm : Sound m) where
   pub pair-pos : 1 ≤ pairHyper l m
   pair-pos = lcm-pos (hyperOf l) (hyperOf m) (hyper-pos l okl) (hyper-pos m okm)
 

@@ -4,3 +4,4 @@ pub mod Stretches
 pub mod EveryPress
 pub mod Survey
 pub mod Answered
+pub mod WithoutGap

@@ -7,7 +7,7 @@ use mathlib.Core.Bool.{cond}
 use mathlib.Core.List.{List}
 use lib.Dec.{ltb}
 use borrow.Author.Tests.{lt-ltb, le-ltb}
-use Rattle.task.specs.declared.Task.{Task}
+use Rattle.task.specs.declared.Place.{Place}
 use Rattle.task.specs.Jobs.{readOf, writeOf}
 use Rattle.task.specs.Links.{earliestAfter}
 use Rattle.task.specs.LinkLaws.{AtLeast, after-less}
@@ -20,20 +20,20 @@ use Rattle.bookings.specs.declared.Stretch.{Stretch}
 use Rattle.bookings.specs.Bookings.{bookingAt, apartAt}
 
 -- The read of the first place's latest job that is booked as early as a press at t: from there on a press is booked later.
-unfoldable pub untilOf : List Task → ℕ → ℕ
+unfoldable pub untilOf : List Place → ℕ → ℕ
 untilOf l t = readOf (at l 0) (jobOf (back l (walk l (earliestAfter (at l 0) t))))
 
 -- The stretch of a press at t.
-unfoldable pub stretchAt : List Task → ℕ → Stretch
+unfoldable pub stretchAt : List Place → ℕ → Stretch
 stretchAt l t = record { booking = record { 0 = bookingAt l t }; until = record { 0 = untilOf l t } }
 
 -- The stretch in hand while it lasts, else the one at t.
-unfoldable pub stretchOn : List Task → Stretch → ℕ → Stretch
+unfoldable pub stretchOn : List Place → Stretch → ℕ → Stretch
 stretchOn l s t = cond (ltb t (s .until .0)) s (stretchAt l t)
 
 -- ---- of a chain that passes the checks 8 and 5
 
-module _ (l : List Task) (ok : Sound l) (t : ℕ) where
+module _ (l : List Place) (ok : Sound l) (t : ℕ) where
   abbrev i : ℕ
   i = earliestAfter (at l 0) t
 
@@ -76,7 +76,7 @@ module _ (l : List Task) (ok : Sound l) (t : ℕ) where
     same-walk : walk l (earliestAfter (at l 0) u) ≡ walk l i
     unfolding untilOf
     same-walk =
-        let a : Task = at l 0 in
+        let a : Place = at l 0 in
         let pos = ok .each 0 (ok .some) .period-pos in
         let k : ℕ = earliestAfter a u in
         let after : i ≤ k = elim (decLt k i) [
@@ -125,7 +125,7 @@ module _ (l : List Task) (ok : Sound l) (t : ℕ) where
 
 -- ---- of two chains: up to the sooner end the difference stands still
 
-module _ (l m : List Task) (okl : Sound l) (okm : Sound m) (t : ℕ) where
+module _ (l m : List Place) (okl : Sound l) (okm : Sound m) (t : ℕ) where
   pub apart-stays : (u : ℕ) → t ≤ u → u < min (untilOf l t) (untilOf m t) → apartAt l m u ≡ apartAt l m t
   unfolding apartAt
   apart-stays u from to =

@@ -6,12 +6,12 @@ use mathlib.Core.List.{List, [], _∷_}
 use lib.ListN.{replicate}
 use Rattle.task.specs.declared.Task.{Task}
 use Rattle.task.specs.Jobs.{withinLimits}
-use Rattle.task.specs.Links.{earliestFrom, latestBy, forwardLink, backwardLink}
+use Rattle.task.specs.Links.{earliestFrom, latestOver, forwardLink, backwardLink}
 use Rattle.euclid.specs.Divisor.{euclid, gcdOf, lcmOf}
 use Rattle.chain.specs.declared.Chain.{Chain}
 use Rattle.chain.specs.Chains.{zeroTask, forwardBy, onLatest, backwardBy}
 use Rattle.chain.specs.Hyperperiod.{hyperFrom}
-use Rattle.chain.specs.Checks.{firstFault, hyperVerdict, verdictFor}
+use Rattle.chain.specs.Checks.{firstFault, hyperVerdict, afterGap, verdictFor}
 use Rattle.ranges.specs.Least.{leastFrom}
 use Rattle.timing.specs.WarmUp.{warmLast, warmAt, warmTick}
 use Rattle.ranges.specs.Largest.{largest}
@@ -23,10 +23,10 @@ abbrev task : ℕ → ℕ → ℕ → Task
 task t d f = record { period = t; duration = d; phase = f }
 
 abbrev first : Chain
-first = record { tasks = task 4 4 0 ∷ task 6 6 0 ∷ replicate 10 zeroTask; places = 2 }
+first = record { tasks = task 4 4 0 ∷ task 6 6 0 ∷ replicate 10 zeroTask; places = 2; gap = 0 }
 
 abbrev second : Chain
-second = record { tasks = task 10 3 5 ∷ replicate 11 zeroTask; places = 1 }
+second = record { tasks = task 10 3 5 ∷ replicate 11 zeroTask; places = 1; gap = 0 }
 
 -- An answer as plain numbers: of a refusal its number and its place, of a success 0, later, earlier, difference and greatest.
 abbrev told : Bookings → List ℕ
@@ -51,5 +51,5 @@ said =
     ∷ []
 
 pub survey : computed ≡ said
-unfolding computed withinLimits earliestFrom latestBy forwardLink backwardLink euclid gcdOf lcmOf forwardBy onLatest backwardBy hyperFrom firstFault hyperVerdict verdictFor leastFrom warmLast warmAt warmTick largest bookingAt apartAt greatestApart commonVerdict bookingsAfter
+unfolding computed withinLimits earliestFrom latestOver forwardLink backwardLink euclid gcdOf lcmOf forwardBy onLatest backwardBy hyperFrom firstFault hyperVerdict afterGap verdictFor leastFrom warmLast warmAt warmTick largest bookingAt apartAt greatestApart commonVerdict bookingsAfter
 survey = refl

@@ -1,5 +1,5 @@
 // Two chains side by side (order 1 of document 02): when a press is booked by each, how far the two bookings lie apart, and the greatest such difference.
-// Its calls `pair` and `pair_on` take any values: two chains, or two flat lists T, D, F, T, D, F, .. of tasks, one for each place, which are lent and not copied.
+// Its calls `pair` and `pair_on` take any values: two chains, or two flat lists T, D, F, T, D, F, .. of tasks, one for each place, which are lent and not copied, with a gap each.
 use chain::Chain;
 use chain::Verdict;
 use refusal::Refusal;
@@ -7,7 +7,7 @@ use task::Tick;
 ghost use mathlib.Core.Path.{_≡_};
 ghost use Prim.Native.Nat.{_-_, _≤_, max, min};
 ghost use Rattle.chain.specs.Checks.{Sound};
-ghost use Rattle.chain.specs.Flat.{tasksIn};
+ghost use Rattle.chain.specs.Flat.{givenIn, tasksIn};
 ghost use Rattle.ranges.specs.Largest.{largest};
 ghost use Rattle.bookings.specs.Bookings.{apartOf, apartAt, pairVerdict, bookingsIn, bookingsOf};
 ghost use Rattle.bookings.specs.Stretches.{stretchAt, stretchOn};
@@ -70,46 +70,46 @@ fn larger(a: u64, b: u64) -> u64
 // ---- stretches
 
 // The booking of a press at t, and how long it stands: forward to the last write, and back to the first place's latest job that is written as early.
-fn stretch_at(tasks: &[u64], t: Tick) -> Stretch
-    requires { ⌜ (Sound (tasksIn (now tasks))) × (t .0 ≤ 1000000000000) ⌝ }
-    ensures { λ r. ⌜ r ≡ stretchAt (tasksIn (now (tasks .entry))) (t .0) ⌝ }
+fn stretch_at(tasks: &[u64], gap: u64, t: Tick) -> Stretch
+    requires { ⌜ (Sound (tasksIn gap (now tasks))) × (t .0 ≤ 1000000000000) ⌝ }
+    ensures { λ r. ⌜ r ≡ stretchAt (tasksIn gap (now (tasks .entry))) (t .0) ⌝ }
 {
     let n = tasks.len() / 3 - 1;
-    let first = chain::task_at(tasks, 0);
+    let first = chain::task_at(tasks, gap, 0);
     let i = first.earliest_after(t);
-    let k = chain::forward_on(tasks, 0, n, i);
-    let last = chain::task_at(tasks, n);
+    let k = chain::forward_on(tasks, gap, 0, n, i);
+    let last = chain::task_at(tasks, gap, n);
     let booking = last.write(k);
-    let j = chain::job_of(chain::backward_on(tasks, 0, n, k));
+    let j = chain::job_of(chain::backward_on(tasks, gap, 0, n, k));
     let until = first.read(j);
     Stretch { booking, until }
 }
 
 // The stretch in hand while it lasts, else the one at t.
-fn stretch_on(tasks: &[u64], s: Stretch, t: Tick) -> Stretch
-    requires { ⌜ (Sound (tasksIn (now tasks))) × (t .0 ≤ 1000000000000) ⌝ }
-    ensures { λ r. ⌜ r ≡ stretchOn (tasksIn (now (tasks .entry))) s (t .0) ⌝ }
+fn stretch_on(tasks: &[u64], gap: u64, s: Stretch, t: Tick) -> Stretch
+    requires { ⌜ (Sound (tasksIn gap (now tasks))) × (t .0 ≤ 1000000000000) ⌝ }
+    ensures { λ r. ⌜ r ≡ stretchOn (tasksIn gap (now (tasks .entry))) s (t .0) ⌝ }
 {
     if t.0 < s.until.0 {
         return s;
     }
-    stretch_at(tasks, t)
+    stretch_at(tasks, gap, t)
 }
 
 // The greatest difference at the ticks from `from` to below `end`, from stretch to stretch: between two of their ends nothing changes.
-fn greatest_apart(first: &[u64], second: &[u64], from: Tick, end: Tick) -> u64
-    requires { ⌜ (Sound (tasksIn (now first))) × (Sound (tasksIn (now second))) × (from .0 ≤ end .0) × (end .0 ≤ 900000000000) ⌝ }
-    ensures { λ r. ⌜ r ≡ largest (apartAt (tasksIn (now (first .entry))) (tasksIn (now (second .entry)))) (from .0) (end .0 - from .0) ⌝ }
+fn greatest_apart(first: &[u64], gap1: u64, second: &[u64], gap2: u64, from: Tick, end: Tick) -> u64
+    requires { ⌜ (Sound (tasksIn gap1 (now first))) × (Sound (tasksIn gap2 (now second))) × (from .0 ≤ end .0) × (end .0 ≤ 900000000000) ⌝ }
+    ensures { λ r. ⌜ r ≡ largest (apartAt (tasksIn gap1 (now (first .entry))) (tasksIn gap2 (now (second .entry)))) (from .0) (end .0 - from .0) ⌝ }
 {
     let mut t = from;
-    let mut a = stretch_at(first, t);
-    let mut b = stretch_at(second, t);
+    let mut a = stretch_at(first, gap1, t);
+    let mut b = stretch_at(second, gap2, t);
     let mut most: u64 = 0;
     while t.0 < end.0 {
         most = larger(most, apart(a.booking, b.booking));
         t = earlier(a.until, b.until);
-        a = stretch_on(first, a, t);
-        b = stretch_on(second, b, t);
+        a = stretch_on(first, gap1, a, t);
+        b = stretch_on(second, gap2, b, t);
     }
     most
 }
@@ -117,16 +117,16 @@ fn greatest_apart(first: &[u64], second: &[u64], from: Tick, end: Tick) -> u64
 // ---- the call
 
 // The checks of the first chain, then of the second, then 7 for their common hyperperiod; accepted with it.
-fn check_pair(first: &[u64], second: &[u64]) -> Verdict
-    ensures { λ r. ⌜ r ≡ pairVerdict (tasksIn (now (first .entry))) (tasksIn (now (second .entry))) ⌝ }
+fn check_pair(first: &[u64], gap1: u64, second: &[u64], gap2: u64) -> Verdict
+    ensures { λ r. ⌜ r ≡ pairVerdict gap1 (givenIn (now (first .entry))) gap2 (givenIn (now (second .entry))) ⌝ }
 {
-    let v = chain::check_on(first);
+    let v = chain::check_on(first, gap1);
     match v {
         Verdict::Refused(r) => {
             return Verdict::Refused(r);
         }
         Verdict::Accepted(h) => {
-            let w = chain::check_on(second);
+            let w = chain::check_on(second, gap2);
             match w {
                 Verdict::Refused(r) => {
                     return Verdict::Refused(r);
@@ -146,24 +146,27 @@ fn check_pair(first: &[u64], second: &[u64]) -> Verdict
     }
 }
 
-// The bookings of a press at tick t by two chains, as flat lists of tasks.
-pub fn pair_on(first: &[u64], second: &[u64], t: Tick) -> Bookings
-    ensures { λ r. ⌜ r ≡ bookingsIn (tasksIn (now (first .entry))) (tasksIn (now (second .entry))) (t .0) ⌝ }
+// The bookings of a press at tick t by two chains, as flat lists of tasks, each with the gap of its links.
+pub fn pair_on(first: &[u64], gap1: u64, second: &[u64], gap2: u64, t: Tick) -> Bookings
+    ensures { λ r. ⌜ r ≡ bookingsIn gap1 (givenIn (now (first .entry))) gap2 (givenIn (now (second .entry))) (t .0) ⌝ }
 {
-    let v = check_pair(first, second);
+    let v = check_pair(first, gap1, second, gap2);
     match v {
         Verdict::Refused(r) => {
             return Bookings::Refused(r);
         }
         Verdict::Accepted(h) => {
-            let from = later(timing::warm_tick(first), timing::warm_tick(second));
+            let from = later(
+                timing::warm_tick(first, gap1),
+                timing::warm_tick(second, gap2),
+            );
             let number = timing::tick_refusal(t, from);
             if number != 0 {
                 return Bookings::Refused(Refusal { number, place: 0 });
             }
-            let a = stretch_at(first, t);
-            let b = stretch_at(second, t);
-            let greatest = greatest_apart(first, second, from, Tick(from.0 + h));
+            let a = stretch_at(first, gap1, t);
+            let b = stretch_at(second, gap2, t);
+            let greatest = greatest_apart(first, gap1, second, gap2, from, Tick(from.0 + h));
             let late = later(a.booking, b.booking);
             let early = earlier(a.booking, b.booking);
             let difference = apart(a.booking, b.booking);
@@ -185,5 +188,5 @@ pub fn pair(first: Chain, second: Chain, t: Tick) -> Bookings
     let n = chain::flat_length(first.places);
     let two = chain::flat(second);
     let m = chain::flat_length(second.places);
-    pair_on(&one[..n], &two[..m], t)
+    pair_on(&one[..n], first.gap, &two[..m], second.gap, t)
 }

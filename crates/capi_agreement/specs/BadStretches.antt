@@ -32,7 +32,7 @@ windows-zero c B k code m j gives fine = go (afterLimits (verdictOf c) k) (after
         let y : j ≡ earliestJob (tasksOf c) B k = ap (λ (l : List ℕ). getD l 2 0) e in
         rw (x, y)
 
-pub bad-stretch-for-c : (tasks : List ℕ) (places B k code misses first : ℕ) → GivesWindows (chainFrom tasks places) B k code misses first → code ≡ 0
-    → BadStretch (tasksOf (chainFrom tasks places)) B k misses first
-bad-stretch-for-c tasks places B k code misses first gives fine =
-    windows-answered (chainFrom tasks places) (chain-twelve tasks places) B k misses (record { 0 = first }) (windows-zero (chainFrom tasks places) B k code misses first gives fine)
+pub bad-stretch-for-c : (tasks : List ℕ) (places gap B k code misses first : ℕ) → GivesWindows (chainFrom tasks places gap) B k code misses first → code ≡ 0
+    → BadStretch (tasksOf (chainFrom tasks places gap)) B k misses first
+bad-stretch-for-c tasks places gap B k code misses first gives fine =
+    windows-answered (chainFrom tasks places gap) (chain-twelve tasks places gap) B k misses (record { 0 = first }) (windows-zero (chainFrom tasks places gap) B k code misses first gives fine)

@@ -1,4 +1,4 @@
--- mo_chain_of_schedule and the calls on chains that take flat, 36 and chain_places: from code 0 they get the chain with that number (`chosen-for-c`), which only 7 can refuse (`chosen-checked`);
+-- mo_chain_of_schedule and the calls on chains that take flat, 36, chain_places and the schedule's gap: from code 0 they get the chain with that number (`chosen-for-c`), which only 7 can refuse (`chosen-checked`);
 -- from any other code every one of them refuses with 8 (`not-chosen`), also where a caller does not look at the code. Of a file that is read, each number up to the count of chains is chosen (`read-then-chosen`).
 use Prim.Native.Nat.{ℕ, _*_, _≤_}
 use native.Mathlib.Omega.{arith}
@@ -10,7 +10,7 @@ use Rattle.refusal.specs.Refusals.{refusal, none, codeOf}
 use Rattle.chain.specs.declared.Chain.{Chain}
 use Rattle.chain.specs.declared.Verdict.{Verdict}
 use Rattle.chain.specs.declared.Verdict.the-variants.{Refused}
-use Rattle.chain.specs.Chains.{tasksOf}
+use Rattle.chain.specs.Chains.{givenOf, tasksOf}
 use Rattle.chain.specs.Checks.{hyperVerdict, verdictOf}
 use Rattle.chain.specs.Flat.{flatChain}
 use Rattle.chain.specs.StandsFor.{eight}
@@ -78,21 +78,21 @@ refused-by-all c r e = record {
         (g .0 ∙ ap (λ (x : Verdict). spanCode (spanAfter x from t span)) e, g .1 ∙ ap (λ (x : Verdict). spanTicks (spanAfter x from t span)) e)
 
 -- a chain of no places has none from its list
-no-places : (flat : List ℕ) (held : ℕ) → held ≡ 0 → 1 ≤ chainFrom flat held .places → ⊥
-no-places flat held e g =
-    let n = chain-count flat held in
+no-places : (flat : List ℕ) (held gap : ℕ) → held ≡ 0 → 1 ≤ chainFrom flat held gap .places → ⊥
+no-places flat held gap e g =
+    let n = chain-count flat held gap in
     let m : placesOf (length flat) held ≡ held = places-given (length flat) held (omega arith) in
     omega arith
 
 -- ---- what mo_chain_of_schedule gives
 
-module _ (tasks : List ℕ) (count : ℕ) (chains places : List ℕ) (total number code : ℕ) (flat : List ℕ) (held : ℕ) (gives : GivesChain (scheduleFrom tasks count chains places total) number code flat held) where
+module _ (tasks : List ℕ) (count : ℕ) (chains places : List ℕ) (total gap number code : ℕ) (flat : List ℕ) (held : ℕ) (gives : GivesChain (scheduleFrom tasks count chains places total gap) number code flat held) where
   abbrev s : Schedule
-  s = scheduleFrom tasks count chains places total
+  s = scheduleFrom tasks count chains places total gap
 
-  -- the chain that a call on chains makes of it
-  same : chainFrom flat held ≡ chainFrom (flatChain (chosenOf s number .chain .tasks)) (chosenOf s number .chain .places)
-  same = ap (chainFrom flat) (gives .gives-places) ∙ ap (λ (l : List ℕ). chainFrom l (chosenOf s number .chain .places)) (gives .gives-flat)
+  -- the chain that a call on chains makes of it with the schedule's gap
+  same : chainFrom flat held gap ≡ chainFrom (flatChain (chosenOf s number .chain .tasks)) (chosenOf s number .chain .places) gap
+  same = ap (λ (n : ℕ). chainFrom flat n gap) (gives .gives-places) ∙ ap (λ (l : List ℕ). chainFrom l (chosenOf s number .chain .places) gap) (gives .gives-flat)
 
   module _ (fine : code ≡ 0) where
     zero-number : choiceOf s number .number ≡ 0
@@ -101,35 +101,35 @@ module _ (tasks : List ℕ) (count : ℕ) (chains places : List ℕ) (total numb
     in-schedule : (SoundSchedule s) × (1 ≤ number) × (number ≤ s .chains)
     in-schedule = choice-sound s number zero-number
 
-    -- Code 0: the calls on chains get the chain with that number,
-    pub chosen-for-c : chainFrom flat held ≡ chainAt s number
+    -- Code 0: the calls on chains, given the schedule's gap, get the chain with that number,
+    pub chosen-for-c : chainFrom flat held gap ≡ chainAt s number
     chosen-for-c =
-        let a = from-arrays tasks count chains places total in
+        let a = from-arrays tasks count chains places total gap in
         let k = in-schedule in
         let p = sound-placed s a (k .0) number (k .1) (k .2) in
-        same ∙ ap (λ (c : Chain). chainFrom (flatChain (c .tasks)) (c .places)) (chosen-chain s number zero-number)
+        same ∙ ap (λ (c : Chain). chainFrom (flatChain (c .tasks)) (c .places) gap) (chosen-chain s number zero-number)
         ∙ chain-given-back (chainAt s number) (sound-twelve s a (k .0) number (k .1) (k .2)) (p .1)
 
     -- and of its checks only 7 can refuse it.
-    pub chosen-checked : verdictOf (chainFrom flat held) ≡ hyperVerdict (tasksOf (chainFrom flat held))
+    pub chosen-checked : verdictOf (chainFrom flat held gap) ≡ hyperVerdict (tasksOf (chainFrom flat held gap))
     chosen-checked =
         let k = in-schedule in
-        rw chosen-for-c (sound-chain s (from-arrays tasks count chains places total) (k .0) number (k .1) (k .2))
+        rw chosen-for-c (sound-chain s (from-arrays tasks count chains places total gap) (k .0) number (k .1) (k .2))
 
   -- number 0 has place 0
   none-code : choiceOf s number .number ≡ 0 → codeOf (choiceOf s number) ≡ 0
   none-code z = let k = choice-sound s number z in ap codeOf (choice-there s number (k .0) (k .1) (k .2))
 
-  -- Any other code: every call on chains refuses with 8.
-  pub not-chosen : (code ≡ 0 → ⊥) → RefusedByAll (chainFrom flat held) (refusal 8 0)
-  not-chosen wrong =
+  -- Any other code: every call on chains refuses with 8, whatever gap it is given.
+  pub not-chosen : (code ≡ 0 → ⊥) → (d : ℕ) → RefusedByAll (chainFrom flat held d) (refusal 8 0)
+  not-chosen wrong d =
       let n : choiceOf s number .number ≡ 0 → ⊥ = λ z. wrong (gives .answers ∙ none-code z) in
       let e : held ≡ 0 = gives .gives-places ∙ ap (λ (c : Chosen). c .chain .places) (none-chosen s number n) in
-      refused-by-all (chainFrom flat held) (refusal 8 0) (eight (chainFrom flat held .places) (tasksOf (chainFrom flat held)) (λ g. absurd (no-places flat held e g)))
+      refused-by-all (chainFrom flat held d) (refusal 8 0) (eight (chainFrom flat held d .places) (chainFrom flat held d .gap) (givenOf (chainFrom flat held d)) (λ g. absurd (no-places flat held d e g)))
 
 -- Of a file that is read: each number from 1 to the count of chains is chosen, and gives that chain of the file's schedule.
--- n and m are the counts that were got. us, vs and ws hold the numbers that were got, as lists of any length that the counts fit, as in `rewritten-for-c`.
-module _ (b : List ℕ) (is : Bytes b) (code : ℕ) (ts ch pl : List ℕ) (n m : ℕ) (reads : GivesSchedule (readFile b) code ts ch pl (n ∷ m ∷ [])) (fine : code ≡ 0)
+-- n and m are the counts that were got, and gap is the gap. us, vs and ws hold the numbers that were got, as lists of any length that the counts fit, as in `rewritten-for-c`.
+module _ (b : List ℕ) (is : Bytes b) (code : ℕ) (ts ch pl : List ℕ) (n m gap : ℕ) (reads : GivesSchedule (readFile b) code ts ch pl (n ∷ m ∷ gap ∷ [])) (fine : code ≡ 0)
     (us vs ws : List ℕ) (count : countFrom (length us) n ≡ n) (tasks : take (4 * n) us ≡ take (4 * n) ts) (chained : heldFrom (length ws) m ≡ m) (chains : SameChains m ch pl vs ws) where
   number-zero : readFile b .refusal .number ≡ 0
   number-zero = omega (arith, reads .answers)
@@ -137,17 +137,17 @@ module _ (b : List ℕ) (is : Bytes b) (code : ℕ) (ts ch pl : List ℕ) (n m :
   sound-read : SoundSchedule (readFile b .schedule)
   sound-read = read-sound b is number-zero
 
-  got : scheduleFrom ts n ch pl m ≡ readFile b .schedule
-  got = given-schedule (readFile b) code ts ch pl (n ∷ m ∷ []) reads (read-arrays b is number-zero) (sound-read .few) (sound-read .few-chains) (read-places b is number-zero)
+  got : scheduleFrom ts n ch pl m gap ≡ readFile b .schedule
+  got = given-schedule (readFile b) code ts ch pl (n ∷ m ∷ gap ∷ []) reads (read-arrays b is number-zero) (sound-read .few) (sound-read .few-chains) (read-places b is number-zero)
 
   -- what is chosen is looked for in the same schedule
-  same-read : SameSchedule (scheduleFrom us n vs ws m) (readFile b .schedule)
-  same-read = subst (SameSchedule (scheduleFrom us n vs ws m)) got (same-given b is code ts ch pl n m reads fine us vs ws count tasks chained chains)
+  same-read : SameSchedule (scheduleFrom us n vs ws m gap) (readFile b .schedule)
+  same-read = subst (SameSchedule (scheduleFrom us n vs ws m gap)) got (same-given b is code ts ch pl n m gap reads fine us vs ws count tasks chained chains)
 
-  pub read-then-chosen : (number : ℕ) → 1 ≤ number → number ≤ m → (code′ : ℕ) (flat : List ℕ) (held : ℕ) → GivesChain (scheduleFrom us n vs ws m) number code′ flat held
-      → (code′ ≡ 0) × (chainFrom flat held ≡ chainAt (readFile b .schedule) number)
+  pub read-then-chosen : (number : ℕ) → 1 ≤ number → number ≤ m → (code′ : ℕ) (flat : List ℕ) (held : ℕ) → GivesChain (scheduleFrom us n vs ws m gap) number code′ flat held
+      → (code′ ≡ 0) × (chainFrom flat held gap ≡ chainAt (readFile b .schedule) number)
   read-then-chosen number low high code′ flat held gives =
       let c : m ≡ readFile b .schedule .chains = ap (λ (l : List ℕ). getD l 1 0) (reads .gives-counts) in
       let z : choiceOf (readFile b .schedule) number ≡ none = choice-there (readFile b .schedule) number sound-read low (omega arith) in
-      let k : code′ ≡ 0 = gives .answers ∙ ap codeOf (choice-same (scheduleFrom us n vs ws m) (readFile b .schedule) same-read number ∙ z) in
-      (k, chosen-for-c us n vs ws m number code′ flat held gives k ∙ chain-same (scheduleFrom us n vs ws m) (readFile b .schedule) same-read number)
+      let k : code′ ≡ 0 = gives .answers ∙ ap codeOf (choice-same (scheduleFrom us n vs ws m gap) (readFile b .schedule) same-read number ∙ z) in
+      (k, chosen-for-c us n vs ws m gap number code′ flat held gives k ∙ chain-same (scheduleFrom us n vs ws m gap) (readFile b .schedule) same-read number)

@@ -1,4 +1,4 @@
--- Demand 3 of the calls for C, from their own contracts: from code 0 of mo_make_table, mo_read_table gives at every tick what mo_delay gives (`table-is-walk-for-c`),
+-- Demand 3 of the calls for C, with any gap (order 5), from their own contracts: from code 0 of mo_make_table, mo_read_table gives at every tick what mo_delay gives (`table-is-walk-for-c`),
 -- two cuts leave the same entries below g (`cuts-agree-for-c`), and mo_greatest's latency is the greatest delay of mo_delay and 1 + the greatest age of mo_age
 -- (`greatest-for-c`). When mo_make_table answers 0 is `completes-for-c`. And mo_mean's two numbers give the mean of the walk's delay at every time of a hyperperiod (`mean-for-c`).
 use Prim.Native.Nat.{ℕ, _+_, _*_, _/_, _≤_, _<_}
@@ -6,11 +6,13 @@ use native.Mathlib.Omega.{arith}
 use mathlib.Core.Path.{_≡_, sym, ap, _∙_}
 use mathlib.Core.List.{List, [], _∷_}
 use lib.ListN.{length, getD}
-use lib.Seq.{getD-take}
+use lib.Seq.{getD-take, length-take-le}
 use borrow.Author.Tests.{le-leb}
+use Rattle.task.specs.Jobs.{placeOf}
 use Rattle.chain.specs.declared.Chain.{Chain}
 use Rattle.chain.specs.declared.Verdict.the-variants as verdict
-use Rattle.chain.specs.Chains.{tasksOf, at, zeroTask}
+use Rattle.chain.specs.Chains.{givenOf, tasksOf, at, zeroTask}
+use Rattle.chain.specs.Placed.{at-placed}
 use Rattle.chain.specs.Checks.{verdictOf}
 use Rattle.chain.proofs.CheckLaws.{Facts, accepted}
 use Rattle.timing.specs.WarmUp.{warmTick}
@@ -72,12 +74,12 @@ pub record MeanForC (c : Chain) (from h area ticks : ℕ) : Type 0 where
   pub integral : (t : ℕ) → from ≤ t → Integral (delayTimed (tasksOf c)) (delayAt (tasksOf c)) t h area
   pub doubled-ticks : ticks ≡ 2 * h
 
-module _ (tasks : List ℕ) (places : ℕ) where
+module _ (tasks : List ℕ) (places gap : ℕ) where
   abbrev c : Chain
-  c = chainFrom tasks places
+  c = chainFrom tasks places gap
 
   twelve : length (c .tasks) ≡ 12
-  twelve = chain-twelve tasks places
+  twelve = chain-twelve tasks places gap
 
   -- a making for C with code 0 is a making with a whole table
   record Done (p : ℕ) (s v s′ v′ figures : List ℕ) : Type 0 where
@@ -189,15 +191,16 @@ module _ (tasks : List ℕ) (places : ℕ) where
     facts = accepted c h twelve is-accepted
 
     places-are : c .places ≡ places
-    places-are = chain-count tasks places ∙ places-given (length tasks) places (omega (arith, facts .passes .counted, facts .passes .sound .some, chain-count tasks places))
+    places-are = chain-count tasks places gap ∙ places-given (length tasks) places (omega (arith, facts .passes .counted, facts .passes .sound .some, chain-count tasks places gap))
 
     period-at : (i : ℕ) → i < places → at (tasksOf c) i .period ≡ getD tasks (3 * i) 0
     unfolding taskAt
     period-at i l =
         let n : c .places ≤ 12 = omega (arith, facts .passes .counted, facts .passes .sound .few) in
         let k = places-inside (length tasks) places in
-        let e = getD-take (c .places) (c .tasks) i zeroTask (omega (arith, places-are)) ∙ chain-at tasks places i (omega (arith, places-are)) in
-        rw (e, le-leb (3 * i + 3) (length tasks) (omega (arith, places-are, chain-count tasks places)))
+        let g : length (givenOf c) ≡ places = length-take-le (c .places) (c .tasks) (omega (arith, twelve)) ∙ places-are in
+        let e = at-placed (c .gap) (givenOf c) i (omega arith) ∙ ap (placeOf (c .gap)) (getD-take (c .places) (c .tasks) i zeroTask (omega (arith, places-are)) ∙ chain-at tasks places gap i (omega (arith, places-are))) in
+        rw (e, le-leb (3 * i + 3) (length tasks) (omega (arith, places-are, chain-count tasks places gap)))
 
     pub completes-for-c : (p i : ℕ) (s v : List ℕ) → 1 ≤ p → p ≤ places → length s ≡ length v → i < places → h / getD tasks (3 * i) 0 ≤ length s
         → (code′ : ℕ) (s′ v′ figures : List ℕ) → GivesTable c p s v code′ s′ v′ figures → code′ ≡ 0

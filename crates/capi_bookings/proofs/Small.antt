@@ -5,7 +5,7 @@ use mathlib.Core.Bool.{Bool, true, false, cond}
 use mathlib.Core.List.{List}
 use lib.Dec.{leb, ltb, eqb}
 use Rattle.refusal.specs.Refusals.{refusal}
-use Rattle.task.specs.declared.Task.{Task}
+use Rattle.task.specs.declared.Place.{Place}
 use Rattle.chain.specs.declared.Chain.{Chain}
 use Rattle.chain.specs.declared.Verdict.{Verdict}
 use Rattle.chain.specs.declared.Verdict.the-variants as verdict
@@ -41,7 +41,7 @@ both-small (verdict.Refused r) w h a b = a
 both-small (verdict.Accepted n) (verdict.Refused r) h a b = b
 both-small (verdict.Accepted n) (verdict.Accepted m) h a b = common-small h
 
-after-small : (l m : List Task) (t : ℕ) (v : Verdict) → SmallVerdict v → SmallBookings (bookingsAfter l m t v)
+after-small : (l m : List Place) (t : ℕ) (v : Verdict) → SmallVerdict v → SmallBookings (bookingsAfter l m t v)
 unfolding bookingsAfter
 after-small l m t (verdict.Refused r) s = (s .0, omega (arith, s .1))
 after-small l m t (verdict.Accepted h) s = go (ltb t (pairWarm l m)) (ltb upperTick t)

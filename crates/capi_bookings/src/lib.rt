@@ -13,14 +13,15 @@ pub extern "C" fn mo_bookings(
     chains: &[u64],
     places: &[u64],
     total: usize,
+    gap: u64,
     first: usize,
     second: usize,
     t: u64,
     figures: &mut [u64; 4],
 ) -> u64
-    ensures { λ r. ⌜ GivesBookings (scheduleFrom (now (tasks .entry)) count (now (chains .entry)) (now (places .entry)) total) first second t r (now (figures .exit)) ⌝ }
+    ensures { λ r. ⌜ GivesBookings (scheduleFrom (now (tasks .entry)) count (now (chains .entry)) (now (places .entry)) total gap) first second t r (now (figures .exit)) ⌝ }
 {
-    let s = capi_schedule::schedule_from(tasks, count, chains, places, total);
+    let s = capi_schedule::schedule_from(tasks, count, chains, places, total, gap);
     let b = from_schedule::pair_of(s, first, second, Tick(t));
     match b {
         Bookings::Both {

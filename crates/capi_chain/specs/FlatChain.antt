@@ -1,4 +1,4 @@
--- A chain as C gives it: the flat list T, D, F, T, D, F, .. of its tasks, and the number of places.
+-- A chain as C gives it: the flat list T, D, F, T, D, F, .. of its tasks, the number of places, and the gap of its links.
 use Prim.Native.Nat.{ℕ, _+_, _*_, _/_, _%_}
 use mathlib.Core.Bool.{cond, _&&_}
 use mathlib.Core.List.{List}
@@ -19,5 +19,6 @@ taskAt l i =
 unfoldable pub placesOf : ℕ → ℕ → ℕ
 placesOf length places = cond (eqb (length % 3) 0 && leb places (length / 3)) places 0
 
-unfoldable pub chainFrom : List ℕ → ℕ → Chain
-chainFrom l places = record { tasks = entries (taskAt l) 0 12; places = placesOf (length l) places }
+-- The chain of a list, a number of places and a gap.
+unfoldable pub chainFrom : List ℕ → ℕ → ℕ → Chain
+chainFrom l places gap = record { tasks = entries (taskAt l) 0 12; places = placesOf (length l) places; gap = gap }

@@ -1,4 +1,4 @@
-// A chain as it is given from C and from hosts: the flat list T, D, F, T, D, F, .. of its tasks, and the number of places.
+// A chain as it is given from C and from hosts: the flat list T, D, F, T, D, F, .. of its tasks, the number of places, and the gap.
 // No chain is made of it: the calls take the front of the list that holds the tasks at the places.
 ghost use mathlib.Core.Path.{_≡_};
 ghost use Prim.Native.Nat.{_*_};

@@ -29,13 +29,13 @@ read-fits f l e = rw e (let r = read-small l in (omega arith, omega arith))
 
 pub read-given : (f g : FileRead) (code : ℕ) (tasks chains places : List ℕ) → f ≡ g → code ≡ codeOf (f .refusal) → tasks ≡ flatTasks (f .schedule .tasks)
     → chains ≡ flatRoutes (f .schedule .routes) → places ≡ routeCounts (f .schedule .routes)
-    → GivesSchedule g code tasks chains places (f .schedule .count ∷ f .schedule .chains ∷ [])
+    → GivesSchedule g code tasks chains places (f .schedule .count ∷ f .schedule .chains ∷ f .schedule .gap ∷ [])
 read-given f g code tasks chains places e c t u v = record {
   answers = c ∙ ap (λ (x : FileRead). codeOf (x .refusal)) e;
   gives-tasks = t ∙ ap (λ (x : FileRead). flatTasks (x .schedule .tasks)) e;
   gives-chains = u ∙ ap (λ (x : FileRead). flatRoutes (x .schedule .routes)) e;
   gives-places = v ∙ ap (λ (x : FileRead). routeCounts (x .schedule .routes)) e;
-  gives-counts = ap (λ (x : FileRead). x .schedule .count ∷ x .schedule .chains ∷ []) e;
+  gives-counts = ap (λ (x : FileRead). x .schedule .count ∷ x .schedule .chains ∷ x .schedule .gap ∷ []) e;
 }
 
 -- ---- writing

@@ -14,13 +14,13 @@ use Rattle.file_writer.specs.FileBytes.{fileBytes}
 use Rattle.file_writer.specs.Writing.{leftBytes, writtenOf}
 use Rattle.capi_schedule.specs.FlatSchedule.{flatTasks, flatRoutes, routeCounts}
 
--- Reading: the code, and the schedule as lists and counts; zeros under a refusal.
+-- Reading: the code, and the schedule as lists, counts and gap; zeros under a refusal.
 pub record GivesSchedule (f : FileRead) (code : ℕ) (tasks chains places counts : List ℕ) : Type 0 where
   pub answers : code ≡ codeOf (f .refusal)
   pub gives-tasks : tasks ≡ flatTasks (f .schedule .tasks)
   pub gives-chains : chains ≡ flatRoutes (f .schedule .routes)
   pub gives-places : places ≡ routeCounts (f .schedule .routes)
-  pub gives-counts : counts ≡ f .schedule .count ∷ f .schedule .chains ∷ []
+  pub gives-counts : counts ≡ f .schedule .count ∷ f .schedule .chains ∷ f .schedule .gap ∷ []
 
 abbrev pub writtenCode : Written → ℕ
 writtenCode (Bytes n) = 0

@@ -39,7 +39,7 @@ use Rattle.capi_file.specs.Calls.{writtenCode, writtenLength, GivesSched
 -- the schedule of what C got of a schedule
 pub given-schedule : (f : FileRead) (code : ℕ) (ts ch pl counts : List ℕ) → GivesSchedule f code ts ch pl counts → Arrays (f .schedule) → f .schedule .count ≤ 32 → f .schedule .chains ≤ 4
     → ((c : ℕ) → c < 4 → getD (f .schedule .routes) c noRoute .count ≤ 12)
-    → scheduleFrom ts (getD counts 0 0) ch pl (getD counts 1 0) ≡ f .schedule
+    → scheduleFrom ts (getD counts 0 0) ch pl (getD counts 1 0) (getD counts 2 0) ≡ f .schedule
 given-schedule f code ts ch pl counts g a few few-chains few-places =
     rw (g .gives-tasks, g .gives-chains, g .gives-places, g .gives-counts) (schedule-given-back (f .schedule) a few few-chains few-places)
 
@@ -59,7 +59,9 @@ written-zero s lent = go (eqb (faultOf s .number) 0) refl (leb (length (fileByte
 -- writing looks at no more than what is the same
 module _ (s t : Schedule) (same : SameSchedule s t) where
   file-same : fileBytes s ≡ fileBytes t
-  file-same = ap (λ (x : List NumberedTask). fileOf x (chainsIn s)) (same .tasks) ∙ ap (fileOf (tasksIn t)) (same .numbers)
+  file-same =
+      ap (λ (x : List NumberedTask). fileOf x (chainsIn s) (s .gap)) (same .tasks) ∙ ap (λ (x : List (List ℕ)). fileOf (tasksIn t) x (s .gap)) (same .numbers)
+      ∙ ap (fileOf (tasksIn t) (chainsIn t)) (same .gap)
 
   written-same : (lent : ℕ) → writtenOf s lent ≡ writtenOf t lent
   unfolding writtenOf
@@ -75,8 +77,8 @@ module _ (s t : Schedule) (same : SameSchedule s t) where
 -- ---- writing after reading
 
 -- Demand 2, for C: writing what was read returns the file byte for byte, into lent bytes that are long enough.
--- n and m are the counts that were got. us, vs and ws hold the numbers that were got, as lists of any length that the counts fit: those themselves, or no more than is counted.
-module _ (b : List ℕ) (is : Bytes b) (code : ℕ) (ts ch pl : List ℕ) (n m : ℕ) (g : GivesSchedule (readFile b) code ts ch pl (n ∷ m ∷ [])) (fine : code ≡ 0)
+-- n, m and gap are the counts and the gap that were got. us, vs and ws hold the numbers that were got, as lists of any length that the counts fit: those themselves, or no more than is counted.
+module _ (b : List ℕ) (is : Bytes b) (code : ℕ) (ts ch pl : List ℕ) (n m gap : ℕ) (g : GivesSchedule (readFile b) code ts ch pl (n ∷ m ∷ gap ∷ [])) (fine : code ≡ 0)
     (us vs ws : List ℕ) (count : countFrom (length us) n ≡ n) (tasks : take (4 * n) us ≡ take (4 * n) ts) (chained : heldFrom (length ws) m ≡ m) (chains : SameChains m ch pl vs ws) where
   number : readFile b .refusal .number ≡ 0
   number = omega (arith, g .answers)
@@ -84,8 +86,8 @@ module _ (b : List ℕ) (is : Bytes b) (code : ℕ) (ts ch pl : List ℕ) (n m :
   sound : SoundSchedule (readFile b .schedule)
   sound = read-sound b is number
 
-  read : scheduleFrom ts n ch pl m ≡ readFile b .schedule
-  read = given-schedule (readFile b) code ts ch pl (n ∷ m ∷ []) g (read-arrays b is number) (sound .few) (sound .few-chains) (read-places b is number)
+  read : scheduleFrom ts n ch pl m gap ≡ readFile b .schedule
+  read = given-schedule (readFile b) code ts ch pl (n ∷ m ∷ gap ∷ []) g (read-arrays b is number) (sound .few) (sound .few-chains) (read-places b is number)
 
   n-is : n ≡ readFile b .schedule .count
   n-is = ap (λ (l : List ℕ). getD l 0 0) (g .gives-counts)
@@ -106,7 +108,7 @@ module _ (b : List ℕ) (is : Bytes b) (code : ℕ) (ts ch pl : List ℕ) (n m :
       held-back (length ch - 12 * c) (getD pl c 0) (omega (arith, read-places b is number c k))
 
   -- both are the same schedule
-  pub same-given : SameSchedule (scheduleFrom us n vs ws m) (scheduleFrom ts n ch pl m)
+  pub same-given : SameSchedule (scheduleFrom us n vs ws m gap) (scheduleFrom ts n ch pl m gap)
   same-given = record {
     count = count ∙ sym t-count;
     chains = chained ∙ sym t-chains;
@@ -114,35 +116,36 @@ module _ (b : List ℕ) (is : Bytes b) (code : ℕ) (ts ch pl : List ℕ) (n m :
         ∙ ap (λ (x : ℕ). take x (tasksFrom ts)) (sym t-count);
     places = ap (λ (x : ℕ). map countOf (take x (routesFrom vs ws))) chained ∙ same-counts m ch pl vs ws got-held chains ∙ ap (λ (x : ℕ). map countOf (take x (routesFrom ch pl))) (sym t-chains);
     numbers = ap (λ (x : ℕ). map placesOf (take x (routesFrom vs ws))) chained ∙ same-places m ch pl vs ws got-held chains ∙ ap (λ (x : ℕ). map placesOf (take x (routesFrom ch pl))) (sym t-chains);
+    gap = refl;
   }
 
-  pub rewritten-for-c : (old : List ℕ) → length b ≤ length old → (code′ : ℕ) (new : List ℕ) (long : ℕ) → GivesFile (scheduleFrom us n vs ws m) old code′ new long
+  pub rewritten-for-c : (old : List ℕ) → length b ≤ length old → (code′ : ℕ) (new : List ℕ) (long : ℕ) → GivesFile (scheduleFrom us n vs ws m gap) old code′ new long
       → (code′ ≡ 0) × (long ≡ length b) × (new ≡ b ++ drop (length b) old)
   rewritten-for-c old h code′ new long w =
-      let k = gives-same (scheduleFrom us n vs ws m) (scheduleFrom ts n ch pl m) same-given old code′ new long w in
+      let k = gives-same (scheduleFrom us n vs ws m gap) (scheduleFrom ts n ch pl m gap) same-given old code′ new long w in
       let v : GivesFile (readFile b .schedule) old code′ new long = rw read at k in
       let r = write-after-read b is number old h in
       (v .answers ∙ ap writtenCode (r .0), v .gives-length ∙ ap writtenLength (r .0), v .leaves ∙ r .1)
 
 -- ---- reading after writing
 
--- What C gets of a schedule that it gave: no refusal, the same counts, the same numbers of the counted tasks, of each counted chain as many places and the same numbers at them,
+-- What C gets of a schedule that it gave: no refusal, the same counts and gap, the same numbers of the counted tasks, of each counted chain as many places and the same numbers at them,
 -- and the schedule with zeros past its counts.
-pub record ComesBack (ts : List ℕ) (n : ℕ) (ch pl : List ℕ) (m code : ℕ) (ts′ ch′ pl′ counts : List ℕ) : Type 0 where
+pub record ComesBack (ts : List ℕ) (n : ℕ) (ch pl : List ℕ) (m gap code : ℕ) (ts′ ch′ pl′ counts : List ℕ) : Type 0 where
   pub accepted : code ≡ 0
-  pub counted : counts ≡ n ∷ m ∷ []
+  pub counted : counts ≡ n ∷ m ∷ gap ∷ []
   pub tasks : take (4 * n) ts′ ≡ take (4 * n) ts
   pub places : (c : ℕ) → c < m → getD pl′ c 0 ≡ getD pl c 0
   pub numbers : (c i : ℕ) → c < m → i < getD pl c 0 → getD ch′ (12 * c + i) 0 ≡ getD ch (12 * c + i) 0
-  pub schedule : scheduleFrom ts′ n ch′ pl′ m ≡ cleared (scheduleFrom ts n ch pl m)
+  pub schedule : scheduleFrom ts′ n ch′ pl′ m gap ≡ cleared (scheduleFrom ts n ch pl m gap)
 
 -- Demand 2, for C: reading what was written returns the schedule.
-module _ (ts : List ℕ) (n : ℕ) (ch pl : List ℕ) (m : ℕ) (old : List ℕ) (code : ℕ) (new : List ℕ) (long : ℕ) (w : GivesFile (scheduleFrom ts n ch pl m) old code new long) (fine : code ≡ 0) where
+module _ (ts : List ℕ) (n : ℕ) (ch pl : List ℕ) (m gap : ℕ) (old : List ℕ) (code : ℕ) (new : List ℕ) (long : ℕ) (w : GivesFile (scheduleFrom ts n ch pl m gap) old code new long) (fine : code ≡ 0) where
   abbrev s : Schedule
-  s = scheduleFrom ts n ch pl m
+  s = scheduleFrom ts n ch pl m gap
 
   arrays : Arrays s
-  arrays = from-arrays ts n ch pl m
+  arrays = from-arrays ts n ch pl m gap
 
   is-written : writtenOf s (length old) ≡ written.Bytes long
   is-written = written-zero s (length old) (sym (w .answers) ∙ fine) ∙ ap written.Bytes (sym (w .gives-length))
@@ -206,12 +209,12 @@ module _ (ts : List ℕ) (n : ℕ) (ch pl : List ℕ) (m : ℕ) (old : List ℕ)
         ∙ getD-take (routeFrom ch pl c .count) (routeFrom ch pl c .places) i 0 (omega arith)
         ∙ entries-at (placeFrom ch (12 * c)) 0 12 i (omega (arith, placed .1))
 
-  pub reread-for-c : (code′ : ℕ) (ts′ ch′ pl′ counts′ : List ℕ) → GivesSchedule (readFile (take long new)) code′ ts′ ch′ pl′ counts′ → ComesBack ts n ch pl m code′ ts′ ch′ pl′ counts′
+  pub reread-for-c : (code′ : ℕ) (ts′ ch′ pl′ counts′ : List ℕ) → GivesSchedule (readFile (take long new)) code′ ts′ ch′ pl′ counts′ → ComesBack ts n ch pl m gap code′ ts′ ch′ pl′ counts′
   reread-for-c code′ ts′ ch′ pl′ counts′ g =
       let v = rw is-read at g in
       let d : cleared s .count ≡ n = parts .0 ∙ counts in
       let q : cleared s .chains ≡ m = parts .1 ∙ chains-are in
-      let k : counts′ ≡ n ∷ m ∷ [] = v .gives-counts ∙ ap (λ (x : ℕ). x ∷ cleared s .chains ∷ []) d ∙ ap (λ (x : ℕ). n ∷ x ∷ []) q in
+      let k : counts′ ≡ n ∷ m ∷ gap ∷ [] = v .gives-counts ∙ ap (λ (x : ℕ). x ∷ cleared s .chains ∷ gap ∷ []) d ∙ ap (λ (x : ℕ). n ∷ x ∷ gap ∷ []) q in
       let a = cleared-arrays s (length old) long arrays is-written in
       let b = given-schedule (record { refusal = none; schedule = cleared s }) code′ ts′ ch′ pl′ counts′ v (a .0) (omega (arith, parts .0, sound-s .few)) (omega (arith, parts .1, sound-s .few-chains)) (a .1) in
       record {

@@ -5,14 +5,14 @@ ghost use Rattle.file_reader.specs.Reading.{readFile};
 ghost use Rattle.capi_schedule.specs.FlatSchedule.{scheduleFrom};
 ghost use Rattle.capi_file.specs.Calls.{GivesSchedule, GivesFile, GivesChain};
 
-// Reads a schedule file: its tasks, its chains and their numbers of places, zeros past them, and the two counts.
+// Reads a schedule file: its tasks, its chains and their numbers of places, zeros past them, the two counts and the gap.
 #[no_mangle]
 pub extern "C" fn mo_read_file(
     bytes: &[u8],
     tasks: &mut [u64; 128],
     chains: &mut [u64; 48],
     places: &mut [u64; 4],
-    counts: &mut [u64; 2],
+    counts: &mut [u64; 3],
 ) -> u64
     ensures { λ r. ⌜ GivesSchedule (readFile (now (bytes .entry))) r (now (tasks .exit)) (now (chains .exit)) (now (places .exit)) (now (counts .exit)) ⌝ }
 {
@@ -23,7 +23,7 @@ pub extern "C" fn mo_read_file(
     *tasks = capi_schedule::flat_tasks(all);
     *chains = capi_schedule::flat_routes(routes);
     *places = capi_schedule::route_counts(routes);
-    *counts = [s.count as u64, s.chains as u64];
+    *counts = [s.count as u64, s.chains as u64, s.gap];
     let r = read.refusal;
     r.code()
 }
@@ -36,12 +36,13 @@ pub extern "C" fn mo_write_file(
     chains: &[u64],
     places: &[u64],
     total: usize,
+    gap: u64,
     out: &mut [u8],
     length: &mut u64,
 ) -> u64
-    ensures { λ r. ⌜ GivesFile (scheduleFrom (now (tasks .entry)) count (now (chains .entry)) (now (places .entry)) total) (now (out .entry)) r (now (out .exit)) (now (length .exit)) ⌝ }
+    ensures { λ r. ⌜ GivesFile (scheduleFrom (now (tasks .entry)) count (now (chains .entry)) (now (places .entry)) total gap) (now (out .entry)) r (now (out .exit)) (now (length .exit)) ⌝ }
 {
-    let s = capi_schedule::schedule_from(tasks, count, chains, places, total);
+    let s = capi_schedule::schedule_from(tasks, count, chains, places, total, gap);
     let w = file_writer::write_file(s, out);
     match w {
         Written::Bytes(n) => {
@@ -63,13 +64,14 @@ pub extern "C" fn mo_chain_of_schedule(
     chains: &[u64],
     places: &[u64],
     total: usize,
+    gap: u64,
     number: usize,
     flat: &mut [u64; 36],
     held: &mut u64,
 ) -> u64
-    ensures { λ r. ⌜ GivesChain (scheduleFrom (now (tasks .entry)) count (now (chains .entry)) (now (places .entry)) total) number r (now (flat .exit)) (now (held .exit)) ⌝ }
+    ensures { λ r. ⌜ GivesChain (scheduleFrom (now (tasks .entry)) count (now (chains .entry)) (now (places .entry)) total gap) number r (now (flat .exit)) (now (held .exit)) ⌝ }
 {
-    let s = capi_schedule::schedule_from(tasks, count, chains, places, total);
+    let s = capi_schedule::schedule_from(tasks, count, chains, places, total, gap);
     let chosen = schedule_checks::chain_number(s, number);
     let c = chosen.chain;
     *flat = chain::flat(c);

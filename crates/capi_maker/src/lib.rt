@@ -2,11 +2,9 @@
 use maker::Figures;
 use maker::Made;
 ghost use mathlib.Core.Path.{_≡_};
-ghost use Prim.Native.Nat.{_+_, _*_, _≤_, _<_};
-ghost use lib.ListN.{length};
-ghost use Rattle.maker.specs.Making.{madeOf, writtenOf, startsOf, latenciesOf, overlay};
+ghost use Prim.Native.Nat.{_*_};
 ghost use Rattle.capi_chain.specs.FlatChain.{chainFrom};
-ghost use Rattle.capi_maker.specs.Calls.{figureNumbers, madeCode, madeNumbers, GivesTable};
+ghost use Rattle.capi_maker.specs.Calls.{figureNumbers, GivesTable};
 
 // The figures as four numbers: g, x0, H and the number of partitions walked.
 fn numbers_of(f: Figures) -> [u64; 4]
@@ -21,15 +19,16 @@ fn numbers_of(f: Figures) -> [u64; 4]
 pub extern "C" fn mo_make_table(
     tasks: &[u64],
     places: usize,
+    gap: u64,
     p: usize,
     starts: &mut [u64],
     latencies: &mut [u64],
     figures: &mut [u64; 4],
 ) -> u64
-    ensures { λ r. ⌜ GivesTable (chainFrom (now (tasks .entry)) places) p (now (starts .entry)) (now (latencies .entry)) r (now (starts .exit)) (now (latencies .exit)) (now (figures .exit)) ⌝ }
+    ensures { λ r. ⌜ GivesTable (chainFrom (now (tasks .entry)) places gap) p (now (starts .entry)) (now (latencies .entry)) r (now (starts .exit)) (now (latencies .exit)) (now (figures .exit)) ⌝ }
 {
     let n = capi_chain::flat_length(tasks.len(), places);
-    let m = maker::make_table_on(&tasks[..n], p, starts, latencies);
+    let m = maker::make_table_on(&tasks[..n], gap, p, starts, latencies);
     match m {
         Made::Whole(f) => {
             *figures = numbers_of(f);

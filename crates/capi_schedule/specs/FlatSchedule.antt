@@ -1,5 +1,5 @@
 -- A schedule as C gives it: the flat list number, T, D, F, .. of its tasks with their count, the list of its chains' task numbers, twelve entries a chain,
--- and the list of their numbers of places with the count of chains.
+-- the list of their numbers of places with the count of chains, and the gap.
 use Prim.Native.Nat.{ℕ, _+_, _-_, _*_, _/_, _%_}
 use mathlib.Core.Bool.{cond, _&&_}
 use mathlib.Core.List.{List, [], _∷_}
@@ -44,12 +44,14 @@ routeFrom chains places c = record { places = placesFrom chains (12 * c); count 
 abbrev pub routesFrom : List ℕ → List ℕ → List Route
 routesFrom chains places = entries (routeFrom chains places) 0 4
 
-abbrev pub scheduleFrom : List ℕ → ℕ → List ℕ → List ℕ → ℕ → Schedule
-scheduleFrom tasks count chains places total = record {
+-- The schedule of the lists, their counts and the gap.
+abbrev pub scheduleFrom : List ℕ → ℕ → List ℕ → List ℕ → ℕ → ℕ → Schedule
+scheduleFrom tasks count chains places total gap = record {
   tasks = tasksFrom tasks;
   routes = routesFrom chains places;
   count = countFrom (length tasks) count;
   chains = heldFrom (length places) total;
+  gap = gap;
 }
 
 -- number, T, D, F of a schedule's task.

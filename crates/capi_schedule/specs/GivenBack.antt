@@ -19,8 +19,8 @@ use Rattle.schedule.specs.Arrays.{Arrays}
 use Rattle.capi_schedule.specs.FlatSchedule.{numberedAt, tasksFrom, countFrom, heldFrom, placeFrom, placesFrom, routeFrom, routesFrom, scheduleFrom, numberedFields, flatTasks, placeIn, flatRoutes, countIn, routeCounts}
 
 -- The arrays of a schedule from lists have their lengths.
-pub from-arrays : (ts : List ℕ) (n : ℕ) (ch pl : List ℕ) (m : ℕ) → Arrays (scheduleFrom ts n ch pl m)
-from-arrays ts n ch pl m = record {
+pub from-arrays : (ts : List ℕ) (n : ℕ) (ch pl : List ℕ) (m g : ℕ) → Arrays (scheduleFrom ts n ch pl m g)
+from-arrays ts n ch pl m g = record {
   tasks = entries-length (numberedAt ts) 0 32;
   routes = entries-length (routeFrom ch pl) 0 4;
   places = λ i h. ap (λ (r : Route). length (r .places)) (entries-at (routeFrom ch pl) noRoute 4 i h) ∙ entries-length (placeFrom ch (12 * i)) 0 12;
@@ -147,7 +147,7 @@ module _ (rs : List Route) (four : length rs ≡ 4) (twelve : (c : ℕ) → c < 
 
 -- C gets the schedule back, where its counts are inside their limits
 pub schedule-given-back : (s : Schedule) → Arrays s → s .count ≤ 32 → s .chains ≤ 4 → ((c : ℕ) → c < 4 → getD (s .routes) c noRoute .count ≤ 12)
-    → scheduleFrom (flatTasks (s .tasks)) (s .count) (flatRoutes (s .routes)) (routeCounts (s .routes)) (s .chains) ≡ s
+    → scheduleFrom (flatTasks (s .tasks)) (s .count) (flatRoutes (s .routes)) (routeCounts (s .routes)) (s .chains) (s .gap) ≡ s
 schedule-given-back s a few few-chains few-places =
     let n : length (flatTasks (s .tasks)) ≡ 128 = length-flat numberedFields 4 (λ x. refl) (s .tasks) ∙ ap (λ (x : ℕ). 4 * x) (a .tasks) in
     let t = entries-are (numberedAt (flatTasks (s .tasks))) zeroNumbered (s .tasks) 32 (a .tasks) (λ i h. numbered-at (s .tasks) i (omega (arith, a .tasks))) in

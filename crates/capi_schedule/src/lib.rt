@@ -1,4 +1,4 @@
-// A schedule as C and hosts give it and get it: lists of numbers and their counts.
+// A schedule as C and hosts give it and get it: lists of numbers and their counts, and the gap.
 // `tasks` is the flat list number, T, D, F, number, T, D, F, .. with its count; `chains` has the task numbers of chain c, c from 0, from entry 12 c on;
 // `places` has the number of places of each chain, with the count of chains. Every call here takes any lists and any numbers.
 use schedule::NumberedTask;
@@ -142,15 +142,16 @@ fn routes_from(chains: &[u64], places: &[u64]) -> [Route; 4]
     routes
 }
 
-// The schedule of the lists and their counts.
+// The schedule of the lists, their counts and the gap.
 pub fn schedule_from(
     tasks: &[u64],
     count: usize,
     chains: &[u64],
     places: &[u64],
     total: usize,
+    gap: u64,
 ) -> Schedule
-    ensures { λ r. ⌜ r ≡ scheduleFrom (now (tasks .entry)) count (now (chains .entry)) (now (places .entry)) total ⌝ }
+    ensures { λ r. ⌜ r ≡ scheduleFrom (now (tasks .entry)) count (now (chains .entry)) (now (places .entry)) total gap ⌝ }
 {
     let all = tasks_from(tasks);
     let routes = routes_from(chains, places);
@@ -159,6 +160,7 @@ pub fn schedule_from(
         routes,
         count: count_from(tasks.len(), count),
         chains: held_from(places.len(), total),
+        gap,
     }
 }
 

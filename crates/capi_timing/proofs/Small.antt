@@ -7,7 +7,7 @@ use mathlib.Core.List.{List}
 use lib.Dec.{ltb}
 use Rattle.refusal.specs.declared.Refusal.{Refusal}
 use Rattle.refusal.specs.Refusals.{refusal}
-use Rattle.task.specs.declared.Task.{Task}
+use Rattle.task.specs.declared.Place.{Place}
 use Rattle.chain.specs.declared.Chain.{Chain}
 use Rattle.chain.specs.declared.Verdict.{Verdict}
 use Rattle.chain.specs.declared.Verdict.the-variants as verdict
@@ -39,7 +39,7 @@ verdict-fits c v r e f =
     let s : SmallVerdict (verdict.Refused r) = rw (sym e ∙ f) at (verdict-small c) in
     (s .0, omega (arith, s .1))
 
-warm-small : (l : List Task) (v : Verdict) → SmallVerdict v → (warmUpAfter l v .refusal .number < 256) × (warmUpAfter l v .refusal .place ≤ 1000000000)
+warm-small : (l : List Place) (v : Verdict) → SmallVerdict v → (warmUpAfter l v .refusal .number < 256) × (warmUpAfter l v .refusal .place ≤ 1000000000)
 unfolding warmUpAfter
 warm-small l (verdict.Refused r) s = (s .0, omega (arith, s .1))
 warm-small l (verdict.Accepted h) s = (omega arith, omega arith)

@@ -6,8 +6,7 @@ use task::Tick;
 use timing::Span;
 ghost use mathlib.Core.Path.{_≡_};
 ghost use mathlib.Core.List.{map};
-ghost use Prim.Native.Nat.{_+_, _*_, _≤_, _<_};
-ghost use Rattle.refusal.specs.Refusals.{codeOf};
+ghost use Prim.Native.Nat.{_+_, _*_, _<_};
 ghost use Rattle.capi_chain.specs.FlatChain.{chainFrom};
 ghost use Rattle.timing.specs.Answers.{warmUpOf};
 ghost use Rattle.capi_timing.specs.Calls.{spanCode, spanTicks, jobNumber, GivesCheck, GivesDelay, GivesAge, GivesWarmUp, SmallSpan};
@@ -45,11 +44,11 @@ fn job_numbers(all: [Job; 12]) -> [u64; 12]
 
 // The checks of a chain, 8, 5 and 7, and its hyperperiod.
 #[no_mangle]
-pub extern "C" fn mo_check(tasks: &[u64], places: usize, hyperperiod: &mut u64) -> u64
-    ensures { λ r. ⌜ GivesCheck (chainFrom (now (tasks .entry)) places) r (now (hyperperiod .exit)) ⌝ }
+pub extern "C" fn mo_check(tasks: &[u64], places: usize, gap: u64, hyperperiod: &mut u64) -> u64
+    ensures { λ r. ⌜ GivesCheck (chainFrom (now (tasks .entry)) places gap) r (now (hyperperiod .exit)) ⌝ }
 {
     let n = capi_chain::flat_length(tasks.len(), places);
-    let v = chain::check_on(&tasks[..n]);
+    let v = chain::check_on(&tasks[..n], gap);
     match v {
         Verdict::Accepted(h) => {
             *hyperperiod = h;
@@ -67,14 +66,15 @@ pub extern "C" fn mo_check(tasks: &[u64], places: usize, hyperperiod: &mut u64) 
 pub extern "C" fn mo_warm_up(
     tasks: &[u64],
     places: usize,
+    gap: u64,
     jobs: &mut [u64; 12],
     tick: &mut u64,
     hyperperiod: &mut u64,
 ) -> u64
-    ensures { λ r. ⌜ GivesWarmUp (warmUpOf (chainFrom (now (tasks .entry)) places)) r (now (jobs .exit)) (now (tick .exit)) (now (hyperperiod .exit)) ⌝ }
+    ensures { λ r. ⌜ GivesWarmUp (warmUpOf (chainFrom (now (tasks .entry)) places gap)) r (now (jobs .exit)) (now (tick .exit)) (now (hyperperiod .exit)) ⌝ }
 {
     let n = capi_chain::flat_length(tasks.len(), places);
-    let w = timing::warm_up_on(&tasks[..n]);
+    let w = timing::warm_up_on(&tasks[..n], gap);
     let all = w.jobs;
     *jobs = job_numbers(all);
     let from = w.tick;
@@ -86,18 +86,18 @@ pub extern "C" fn mo_warm_up(
 
 // Walking: the delay of a press at tick t.
 #[no_mangle]
-pub extern "C" fn mo_delay(tasks: &[u64], places: usize, t: u64, delay: &mut u64) -> u64
-    ensures { λ r. ⌜ GivesDelay (chainFrom (now (tasks .entry)) places) t r (now (delay .exit)) ⌝ }
+pub extern "C" fn mo_delay(tasks: &[u64], places: usize, gap: u64, t: u64, delay: &mut u64) -> u64
+    ensures { λ r. ⌜ GivesDelay (chainFrom (now (tasks .entry)) places gap) t r (now (delay .exit)) ⌝ }
 {
     let n = capi_chain::flat_length(tasks.len(), places);
-    give(timing::delay_on(&tasks[..n], Tick(t)), delay)
+    give(timing::delay_on(&tasks[..n], gap, Tick(t)), delay)
 }
 
 // Ageing: the age at tick z.
 #[no_mangle]
-pub extern "C" fn mo_age(tasks: &[u64], places: usize, z: u64, age: &mut u64) -> u64
-    ensures { λ r. ⌜ GivesAge (chainFrom (now (tasks .entry)) places) z r (now (age .exit)) ⌝ }
+pub extern "C" fn mo_age(tasks: &[u64], places: usize, gap: u64, z: u64, age: &mut u64) -> u64
+    ensures { λ r. ⌜ GivesAge (chainFrom (now (tasks .entry)) places gap) z r (now (age .exit)) ⌝ }
 {
     let n = capi_chain::flat_length(tasks.len(), places);
-    give(timing::age_on(&tasks[..n], Tick(z)), age)
+    give(timing::age_on(&tasks[..n], gap, Tick(z)), age)
 }

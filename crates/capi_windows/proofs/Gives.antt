@@ -7,7 +7,7 @@ use mathlib.Core.List.{List, [], _∷_}
 use lib.Dec.{leb}
 use Rattle.refusal.specs.declared.Refusal.{Refusal}
 use Rattle.refusal.specs.Refusals.{refusal, codeOf}
-use Rattle.task.specs.declared.Task.{Task}
+use Rattle.task.specs.declared.Place.{Place}
 use Rattle.task.specs.declared.Job.{Job}
 use Rattle.chain.specs.declared.Chain.{Chain}
 use Rattle.chain.specs.declared.Verdict.{Verdict}
@@ -41,7 +41,7 @@ abbrev Small : Windows → Type 0
 Small (Most m j) = Unit {0}
 Small (Refused r) = (r .number < 256) × (r .place ≤ 100)
 
-answer-small : (l : List Task) (B k : ℕ) (v : Verdict) → SmallVerdict v → Small (windowsAfter l B k v)
+answer-small : (l : List Place) (B k : ℕ) (v : Verdict) → SmallVerdict v → Small (windowsAfter l B k v)
 unfolding windowsAfter
 answer-small l B k (verdict.Refused r) s = (s .0, s .1)
 answer-small l B k (verdict.Accepted h) s = tt

@@ -8,15 +8,16 @@ ghost use Rattle.capi_windows.specs.Calls.{GivesWindows};
 pub extern "C" fn mo_windows(
     tasks: &[u64],
     places: usize,
+    gap: u64,
     b: u64,
     k: u64,
     misses: &mut u64,
     first: &mut u64,
 ) -> u64
-    ensures { λ r. ⌜ GivesWindows (chainFrom (now (tasks .entry)) places) b k r (now (misses .exit)) (now (first .exit)) ⌝ }
+    ensures { λ r. ⌜ GivesWindows (chainFrom (now (tasks .entry)) places gap) b k r (now (misses .exit)) (now (first .exit)) ⌝ }
 {
     let n = capi_chain::flat_length(tasks.len(), places);
-    let w = windows::most_misses_on(&tasks[..n], b, k);
+    let w = windows::most_misses_on(&tasks[..n], gap, b, k);
     match w {
         Windows::Most(m, j) => {
             *misses = m;

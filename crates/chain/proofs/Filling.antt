@@ -5,13 +5,13 @@ use native.Mathlib.Decide.{decLt}
 use native.Mathlib.Numerals.{add-one}
 use mathlib.Core.Path.{_≡_, refl, sym, ap, _∙_}
 use mathlib.Core.List.{List, [], _∷_, _++_, append-assoc}
-use lib.ListN.{length, set, take, length-set}
+use lib.ListN.{length, set, take, getD, length-set}
 use lib.Seq.{take-all, take-suc-set, length-take-le}
 use borrow.Author.Tests.{le-ltb, lt-ltb}
 use Rattle.task.specs.declared.Task.{Task}
 use Rattle.chain.specs.declared.Chain.{Chain}
-use Rattle.chain.specs.Chains.{at, zeroTask}
-use Rattle.chain.specs.Flat.{flatOf, taskFields, flatChain, flatLength, tasksIn, length-flat, flat-more}
+use Rattle.chain.specs.Chains.{zeroTask}
+use Rattle.chain.specs.Flat.{flatOf, taskFields, flatChain, flatLength, givenIn, length-flat, flat-more}
 use Rattle.chain.specs.StandsFor.{StandsFor, front-stands}
 
 module _ (list : List ℕ) (k x y z : ℕ) (h : k + 3 ≤ length list) where
@@ -30,11 +30,11 @@ unfolding flatOf
 flat-none l list = refl
 
 pub flat-turn : (l : List Task) (list : List ℕ) (i : ℕ) → i < length l → 3 * i + 3 ≤ length list → take (3 * i) list ≡ flatChain (take i l)
-    → take (3 * (i + 1)) (set (set (set list (3 * i) (at l i .period)) (3 * i + 1) (at l i .duration)) (3 * i + 2) (at l i .phase)) ≡ flatChain (take (i + 1) l)
+    → take (3 * (i + 1)) (set (set (set list (3 * i) (getD l i zeroTask .period)) (3 * i + 1) (getD l i zeroTask .duration)) (3 * i + 2) (getD l i zeroTask .phase)) ≡ flatChain (take (i + 1) l)
 flat-turn l list i h g e =
     let n : 3 * (i + 1) ≡ 3 * i + 3 = omega arith in
-    ap (λ (x : ℕ). take x (set (set (set list (3 * i) (at l i .period)) (3 * i + 1) (at l i .duration)) (3 * i + 2) (at l i .phase))) n
-    ∙ three-stores list (3 * i) (at l i .period) (at l i .duration) (at l i .phase) g ∙ ap (λ (r : List ℕ). r ++ taskFields (at l i)) e ∙ sym (flat-more taskFields 3 (λ x. refl) zeroTask l i h) ∙ ap (λ (x : ℕ). flatChain (take x l)) (sym (add-one i))
+    ap (λ (x : ℕ). take x (set (set (set list (3 * i) (getD l i zeroTask .period)) (3 * i + 1) (getD l i zeroTask .duration)) (3 * i + 2) (getD l i zeroTask .phase))) n
+    ∙ three-stores list (3 * i) (getD l i zeroTask .period) (getD l i zeroTask .duration) (getD l i zeroTask .phase) g ∙ ap (λ (r : List ℕ). r ++ taskFields (getD l i zeroTask)) e ∙ sym (flat-more taskFields 3 (λ x. refl) zeroTask l i h) ∙ ap (λ (x : ℕ). flatChain (take x l)) (sym (add-one i))
 
 -- the list is filled
 pub flat-end : (l : List Task) (list : List ℕ) (i : ℕ) → length l ≤ i → length list ≤ 3 * i → take (3 * i) list ≡ flatChain (take i l) → list ≡ flatChain l
@@ -56,7 +56,7 @@ short-length n h = rw (le-ltb 12 n h)
 pub record Lent (c : Chain) (list : List ℕ) (n : ℕ) : Type 0 where
   pub inside : n ≤ length list
   pub long : n ≡ length (take n list)
-  pub stands : StandsFor (tasksIn (take n list)) c
+  pub stands : StandsFor (c .gap) (givenIn (take n list)) c
 
 pub lent : (c : Chain) → length (c .tasks) ≡ 12 → (list : List ℕ) → list ≡ flatChain (c .tasks) → (n : ℕ) → n ≡ flatLength (c .places) → Lent c list n
 lent c twelve list filled n cut =

@@ -4,41 +4,41 @@ use native.Mathlib.Omega.{arith}
 use mathlib.Core.Path.{_≡_, ap, _∙_}
 use mathlib.Core.List.{List}
 use lib.ListN.{length}
-use Rattle.task.specs.declared.Task.{Task}
+use Rattle.task.specs.declared.Place.{Place}
 use Rattle.task.specs.declared.Job.{Job}
 use Rattle.task.specs.declared.Latest.the-variants.{Of, Nothing}
 use Rattle.task.specs.Links.{forwardLink, backwardLink}
-use Rattle.task.specs.Jobs.{readOf, writeOf}
+use Rattle.task.specs.Jobs.{readOf, writeOf, readableOf}
 use Rattle.task.specs.LinkLaws.{backward-earlier}
 use Rattle.chain.specs.Chains.{at, forwardBy, backwardBy, onLatest}
 use Rattle.chain.specs.Checks.{Sound}
 use Rattle.chain.specs.Ranges.{forward-fits}
 
-pub forward-none : (l : List Task) (p j : ℕ) → j ≡ forwardBy l p (p - p) j
+pub forward-none : (l : List Place) (p j : ℕ) → j ≡ forwardBy l p (p - p) j
 unfolding forwardBy
 forward-none l p j = let a : p - p ≡ 0 = omega arith in rw a
 
-pub backward-none : (l : List Task) (p m : ℕ) → Of (record { 0 = m }) ≡ backwardBy l p (p - p) m
+pub backward-none : (l : List Place) (p m : ℕ) → Of (record { 0 = m }) ≡ backwardBy l p (p - p) m
 unfolding backwardBy
 backward-none l p m = let a : p - p ≡ 0 = omega arith in rw a
 
 -- the task at a place is a value of the code
-module _ (l : List Task) (p : ℕ) where
+module _ (l : List Place) (p : ℕ) where
   -- k is the job at place i, a its task
-  module _ (i j k : ℕ) (a : Task) (h : p ≤ i) (here : a ≡ at l i) (way : k ≡ forwardBy l p (i - p) j) where
-    pub forward-small : Sound l → i < length l → writeOf (at l p) j ≤ 1500000000000 → writeOf a k ≤ 2000000000000
-    forward-small ok g top = omega (arith, ap (λ (x : Task). writeOf x k) here, ap (writeOf (at l i)) way, forward-fits l ok p i h g j)
+  module _ (i j k : ℕ) (a : Place) (h : p ≤ i) (here : a ≡ at l i) (way : k ≡ forwardBy l p (i - p) j) where
+    pub forward-small : Sound l → i < length l → writeOf (at l p) j ≤ 1500000000000 → readableOf a k ≤ 2000000000000
+    forward-small ok g top = omega (arith, ap (λ (x : Place). readableOf x k) here, ap (readableOf (at l i)) way, forward-fits l ok p i h g j, ok .each i g .gap-max)
 
-    pub forward-step : (b : Task) → b ≡ at l (i + 1) → forwardLink a b k ≡ forwardBy l p (i + 1 - p) j
+    pub forward-step : (b : Place) → b ≡ at l (i + 1) → forwardLink a b k ≡ forwardBy l p (i + 1 - p) j
     unfolding forwardBy
     forward-step b next =
         let n : i + 1 - p ≡ suc (i - p) = omega arith in
         let c : p + suc (i - p) ≡ i + 1 = omega arith in
         let d : p + (i - p) ≡ i = omega arith in
-        ap (λ (x : Task). forwardLink x b k) here ∙ ap (λ (x : Task). forwardLink (at l i) x k) next ∙ ap (forwardLink (at l i) (at l (i + 1))) way ∙ rw (n, c, d)
+        ap (λ (x : Place). forwardLink x b k) here ∙ ap (λ (x : Place). forwardLink (at l i) x k) next ∙ ap (forwardLink (at l i) (at l (i + 1))) way ∙ rw (n, c, d)
 
   -- m is the job at place i, b its task and a that of the place before
-  module _ (i m : ℕ) (a b : Task) (h : p < i) (before : a ≡ at l (i - 1)) (here : b ≡ at l i) where
+  module _ (i m : ℕ) (a b : Place) (h : p < i) (before : a ≡ at l (i - 1)) (here : b ≡ at l i) where
     backward-unfold : backwardBy l p (i - p) m ≡ onLatest (backwardLink a b m) (backwardBy l p (i - 1 - p))
     unfolding backwardBy
     backward-unfold =

@@ -1,15 +1,17 @@
--- A chain's tasks as the flat list T, D, F, T, D, F, ..
+-- A chain's tasks as the flat list T, D, F, T, D, F, .., and the places that they fill with a gap.
 use Prim.Native.Nat.{ℕ, zero, suc, _+_, _-_, _*_, _/_, _≤_, _<_}
 use native.Mathlib.Omega.{arith}
 use mathlib.Core.Path.{_≡_, refl, sym, ap, _∙_}
 use mathlib.Core.Bool.{cond}
 use mathlib.Core.List.{List, [], _∷_, _++_, append-assoc, append-nil}
 use lib.Dec.{ltb}
-use lib.ListN.{length, getD, take, length-append}
+use lib.ListN.{length, getD, take, length-append, length-map}
 use lib.Seq.{take-nil, take-append-add}
 use Rattle.task.specs.declared.Task.{Task}
+use Rattle.task.specs.declared.Place.{Place}
+use Rattle.task.specs.Jobs.{placeOf}
 use Rattle.chain.specs.declared.Chain.{Chain}
-use Rattle.chain.specs.Chains.{tasksOf, at, lastPlace}
+use Rattle.chain.specs.Chains.{givenOf, placed, zeroTask, lastPlace}
 
 -- The numbers of each element, one after the other.
 unfoldable pub flatOf : {A : Type 0} → (A → List ℕ) → List A → List ℕ
@@ -23,11 +25,15 @@ abbrev pub flatChain : List Task → List ℕ
 flatChain l = flatOf taskFields l
 
 -- The tasks of a flat list. One or two numbers left at its end are no task.
-unfoldable pub tasksIn : List ℕ → List Task
-tasksIn [] = []
-tasksIn (t ∷ []) = []
-tasksIn (t ∷ d ∷ []) = []
-tasksIn (t ∷ d ∷ f ∷ l) = record { period = t; duration = d; phase = f } ∷ tasksIn l
+unfoldable pub givenIn : List ℕ → List Task
+givenIn [] = []
+givenIn (t ∷ []) = []
+givenIn (t ∷ d ∷ []) = []
+givenIn (t ∷ d ∷ f ∷ l) = record { period = t; duration = d; phase = f } ∷ givenIn l
+
+-- The same at places with the gap g.
+abbrev pub tasksIn : ℕ → List ℕ → List Place
+tasksIn g l = placed g (givenIn l)
 
 -- How many numbers of a chain's flat list hold the tasks at its places; none of a chain that has too many places.
 abbrev pub flatLength : ℕ → ℕ
@@ -57,47 +63,50 @@ module _ {A : Type 0} (f : A → List ℕ) (k : ℕ) (each : (x : A) → length 
 
 -- ---- the number of tasks in a flat list
 
-pub in-long : (l : List ℕ) → 3 * length (tasksIn l) ≤ length l
-unfolding tasksIn
+pub in-long : (l : List ℕ) → 3 * length (givenIn l) ≤ length l
+unfolding givenIn
 in-long [] = omega arith
 in-long (t ∷ []) = omega arith
 in-long (t ∷ d ∷ []) = omega arith
 in-long (t ∷ d ∷ f ∷ l) = omega (arith, in-long l)
 
-in-all : (l : List ℕ) → length l < 3 * length (tasksIn l) + 3
-unfolding tasksIn
+in-all : (l : List ℕ) → length l < 3 * length (givenIn l) + 3
+unfolding givenIn
 in-all [] = omega arith
 in-all (t ∷ []) = omega arith
 in-all (t ∷ d ∷ []) = omega arith
 in-all (t ∷ d ∷ f ∷ l) = omega (arith, in-all l)
 
-pub in-count : (l : List ℕ) → length l / 3 ≡ length (tasksIn l)
-in-count l = omega (arith, in-long l, in-all l)
+pub given-count : (l : List ℕ) → length l / 3 ≡ length (givenIn l)
+given-count l = omega (arith, in-long l, in-all l)
 
-pub in-last : (l : List ℕ) → length l / 3 - 1 ≡ lastPlace (tasksIn l)
-in-last l = ap (λ (n : ℕ). n - 1) (in-count l)
+pub in-count : (g : ℕ) (l : List ℕ) → length l / 3 ≡ length (tasksIn g l)
+in-count g l = given-count l ∙ sym (length-map (givenIn l) (placeOf g))
+
+pub in-last : (g : ℕ) (l : List ℕ) → length l / 3 - 1 ≡ lastPlace (tasksIn g l)
+in-last g l = ap (λ (n : ℕ). n - 1) (in-count g l)
 
 -- ---- each of the tasks
 
-pub at-in : (l : List ℕ) (i : ℕ) → i < length (tasksIn l) → at (tasksIn l) i ≡ record { period = getD l (3 * i) 0; duration = getD l (3 * i + 1) 0; phase = getD l (3 * i + 2) 0 }
-unfolding tasksIn
-at-in [] i h = absurd (omega arith)
-at-in (t ∷ []) i h = absurd (omega arith)
-at-in (t ∷ d ∷ []) i h = absurd (omega arith)
-at-in (t ∷ d ∷ f ∷ l) zero h = refl
-at-in (t ∷ d ∷ f ∷ l) (suc i) h =
+pub given-at : (l : List ℕ) (i : ℕ) → i < length (givenIn l) → getD (givenIn l) i zeroTask ≡ record { period = getD l (3 * i) 0; duration = getD l (3 * i + 1) 0; phase = getD l (3 * i + 2) 0 }
+unfolding givenIn
+given-at [] i h = absurd (omega arith)
+given-at (t ∷ []) i h = absurd (omega arith)
+given-at (t ∷ d ∷ []) i h = absurd (omega arith)
+given-at (t ∷ d ∷ f ∷ l) zero h = refl
+given-at (t ∷ d ∷ f ∷ l) (suc i) h =
     let a : 3 * suc i + 1 ≡ suc (suc (suc (3 * i + 1))) = omega arith in
     let b : 3 * suc i + 2 ≡ suc (suc (suc (3 * i + 2))) = omega arith in
     let e : 3 * suc i ≡ suc (suc (suc (3 * i))) = omega arith in
-    rw (a, b, e) (at-in l i (omega arith))
+    rw (a, b, e) (given-at l i (omega arith))
 
 -- ---- there and back
 
-pub in-flat : (l : List Task) → tasksIn (flatChain l) ≡ l
-unfolding tasksIn flatOf
+pub in-flat : (l : List Task) → givenIn (flatChain l) ≡ l
+unfolding givenIn flatOf
 in-flat [] = refl
 in-flat (a ∷ l) = ap (λ (r : List Task). a ∷ r) (in-flat l)
 
 -- the front of a chain's flat list holds the tasks at its places
-pub flat-front : (c : Chain) → tasksIn (take (3 * c .places) (flatChain (c .tasks))) ≡ tasksOf c
-flat-front c = ap tasksIn (take-flat taskFields 3 (λ x. refl) (c .places) (c .tasks)) ∙ in-flat (tasksOf c)
+pub flat-front : (c : Chain) → givenIn (take (3 * c .places) (flatChain (c .tasks))) ≡ givenOf c
+flat-front c = ap givenIn (take-flat taskFields 3 (λ x. refl) (c .places) (c .tasks)) ∙ in-flat (givenOf c)

@@ -5,7 +5,7 @@ use native.Mathlib.Omega.{arith}
 use mathlib.Core.Path.{_≡_, refl}
 use mathlib.Core.Logic.{_↔_}
 use mathlib.Core.List.{List}
-use Rattle.task.specs.declared.Task.{Task}
+use Rattle.task.specs.declared.Place.{Place}
 use Rattle.task.specs.declared.Latest.{Latest}
 use Rattle.task.specs.declared.Latest.the-variants.{Of, Nothing}
 use Rattle.task.specs.Links.{forwardLink, backwardLink}
@@ -13,11 +13,11 @@ use Rattle.task.specs.LinkLaws.{AtLeast, link}
 use Rattle.chain.specs.Chains.{at, forwardBy, onLatest, backwardBy}
 
 -- Every period up to place p is at least 1.
-abbrev pub Periods : List Task → ℕ → Type 0
+abbrev pub Periods : List Place → ℕ → Type 0
 Periods l p = (i : ℕ) → i ≤ p → 1 ≤ at l i .period
 
 -- The chain law: forward from j comes to m or earlier exactly when backward from m there is a job, j or later.
-pub galois : (l : List Task) (p n : ℕ) → Periods l (p + n) → (j m : ℕ) → (forwardBy l p n j ≤ m) ↔ AtLeast (backwardBy l p n m) j
+pub galois : (l : List Place) (p n : ℕ) → Periods l (p + n) → (j m : ℕ) → (forwardBy l p n j ≤ m) ↔ AtLeast (backwardBy l p n m) j
 unfolding forwardBy backwardBy onLatest
 galois l p zero pos j m = (λ h. h, λ h. h)
 galois l p (suc n) pos j m =
@@ -32,7 +32,7 @@ galois l p (suc n) pos j m =
     go (Of k) a ih = (λ h. ih (k .0) .0 (a .0 h), λ h. a .1 (ih (k .0) .1 h))
 
 -- The cut law: a way forward in two parts,
-pub forward-cut : (l : List Task) (p a n j : ℕ) → forwardBy l p (a + n) j ≡ forwardBy l (p + a) n (forwardBy l p a j)
+pub forward-cut : (l : List Place) (p a n j : ℕ) → forwardBy l p (a + n) j ≡ forwardBy l (p + a) n (forwardBy l p a j)
 unfolding forwardBy
 forward-cut l p a zero j = let e : a + 0 ≡ a = omega arith in rw e
 forward-cut l p a (suc n) j =
@@ -42,7 +42,7 @@ forward-cut l p a (suc n) j =
     rw (e, f, g, forward-cut l p a n j)
 
 -- and a way backward in two parts.
-pub backward-cut : (l : List Task) (p a n m : ℕ) → backwardBy l p (a + n) m ≡ onLatest (backwardBy l (p + a) n m) (backwardBy l p a)
+pub backward-cut : (l : List Place) (p a n m : ℕ) → backwardBy l p (a + n) m ≡ onLatest (backwardBy l (p + a) n m) (backwardBy l p a)
 unfolding backwardBy onLatest
 backward-cut l p a zero m = let e : a + 0 ≡ a = omega arith in rw e
 backward-cut l p a (suc n) m =

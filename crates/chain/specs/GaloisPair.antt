@@ -6,7 +6,7 @@ use native.Mathlib.Decide.{decLt, decLe}
 use mathlib.Core.Path.{_≡_}
 use mathlib.Core.Logic.{_↔_}
 use mathlib.Core.List.{List}
-use Rattle.task.specs.declared.Task.{Task}
+use Rattle.task.specs.declared.Place.{Place}
 use Rattle.task.specs.declared.Latest.{Latest}
 use Rattle.task.specs.declared.Latest.the-variants.{Of, Nothing}
 use Rattle.task.specs.LinkLaws.{AtLeast}
@@ -69,7 +69,7 @@ countOf (Of j) = suc (j .0)
 countOf Nothing = 0
 
 -- how many jobs of place p go forward, n places on, to a job below m
-unfoldable pub countBack : List Task → ℕ → ℕ → ℕ → ℕ
+unfoldable pub countBack : List Place → ℕ → ℕ → ℕ → ℕ
 countBack l p n zero = 0
 countBack l p n (suc m) = countOf (backwardBy l p n m)
 
@@ -77,7 +77,7 @@ pub at-least-count : (q : Latest) (j : ℕ) → AtLeast q j ↔ (j < countOf q)
 at-least-count (Of i) j = (λ h. omega arith, λ h. omega arith)
 at-least-count Nothing j = (λ h. absurd h, λ h. omega arith)
 
-pub pair : (l : List Task) (p n : ℕ) → Periods l (p + n) → (j m : ℕ) → (forwardBy l p n j < m) ↔ (j < countBack l p n m)
+pub pair : (l : List Place) (p n : ℕ) → Periods l (p + n) → (j m : ℕ) → (forwardBy l p n j < m) ↔ (j < countBack l p n m)
 unfolding countBack
 pair l p n pos j zero = (λ h. omega arith, λ h. omega arith)
 pair l p n pos j (suc m) =
@@ -86,11 +86,11 @@ pair l p n pos j (suc m) =
     (λ h. a .0 (g .0 (omega arith)), λ h. let u = g .1 (a .1 h) in omega arith)
 
 -- a way along a chain is monotone
-pub forward-mono : (l : List Task) (p n : ℕ) → Periods l (p + n) → (i j : ℕ) → i ≤ j → forwardBy l p n i ≤ forwardBy l p n j
+pub forward-mono : (l : List Place) (p n : ℕ) → Periods l (p + n) → (i j : ℕ) → i ≤ j → forwardBy l p n i ≤ forwardBy l p n j
 forward-mono l p n pos = f-mono (forwardBy l p n) (countBack l p n) (pair l p n pos)
 
 -- both ways, and once there is a job backward there is one from every later job
-pub backward-mono : (l : List Task) (p n : ℕ) → Periods l (p + n) → (m k j : ℕ) → m ≤ k → AtLeast (backwardBy l p n m) j → AtLeast (backwardBy l p n k) j
+pub backward-mono : (l : List Place) (p n : ℕ) → Periods l (p + n) → (m k j : ℕ) → m ≤ k → AtLeast (backwardBy l p n m) j → AtLeast (backwardBy l p n k) j
 backward-mono l p n pos m k j h a =
     let u = galois l p n pos j m .1 a in
     galois l p n pos j k .0 (omega arith)

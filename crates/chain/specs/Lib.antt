@@ -1,4 +1,5 @@
 pub mod Chains
+pub mod Placed
 pub mod Flat
 pub mod Entries
 pub mod Hyperperiod
@@ -8,3 +9,4 @@ pub mod Multiples
 pub mod Galois
 pub mod GaloisPair
 pub mod Ranges
+pub mod WithoutGap

@@ -1,36 +1,36 @@
--- The ranges by which nothing overflows: each link and each job adds at most 5,000,000 ticks.
+-- The ranges by which nothing overflows: each link, its gap included, and each job add at most 5,001,000 ticks.
 use Prim.Native.Nat.{ℕ, zero, suc, _+_, _-_, _*_, _≤_, _<_}
 use native.Mathlib.Omega.{arith}
 use mathlib.Core.Path.{_≡_, refl, sym, ap}
 use mathlib.Core.List.{List}
 use lib.ListN.{length}
-use Rattle.task.specs.declared.Task.{Task}
+use Rattle.task.specs.declared.Place.{Place}
 use Rattle.task.specs.declared.Job.{Job}
 use Rattle.task.specs.declared.Latest.{Latest}
 use Rattle.task.specs.declared.Latest.the-variants.{Of, Nothing}
-use Rattle.task.specs.Jobs.{readOf, writeOf, Within}
+use Rattle.task.specs.Jobs.{readOf, writeOf, Limited}
 use Rattle.task.specs.Links.{backwardLink}
 use Rattle.task.specs.LinkLaws.{forward-later, forward-soon, backward-earlier}
 use Rattle.chain.specs.Chains.{at, forwardBy, backwardBy, onLatest}
 use Rattle.chain.specs.Checks.{Sound}
 
-module _ (l : List Task) where
+module _ (l : List Place) where
   -- a way forward ends soon,
-  pub forward-range : (p n j : ℕ) → ((i : ℕ) → i ≤ p + n → Within (at l i)) → writeOf (at l (p + n)) (forwardBy l p n j) ≤ writeOf (at l p) j + 5000000 * n
+  pub forward-range : (p n j : ℕ) → ((i : ℕ) → i ≤ p + n → Limited (at l i)) → writeOf (at l (p + n)) (forwardBy l p n j) ≤ writeOf (at l p) j + 5001000 * n
   unfolding forwardBy
   forward-range p zero j w = let e : p + 0 ≡ p = omega arith in rw e (omega arith)
   forward-range p (suc n) j w =
-      omega (arith, forward-soon (at l (p + n)) (at l (p + suc n)) (w (p + suc n) (omega arith)) (forwardBy l p n j), w (p + suc n) (omega arith) .duration-max, forward-range p n j (λ i h. w i (omega arith)))
+      omega (arith, forward-soon (at l (p + n)) (at l (p + suc n)) (w (p + suc n) (omega arith)) (forwardBy l p n j), w (p + suc n) (omega arith) .duration-max, w (p + n) (omega arith) .gap-max, forward-range p n j (λ i h. w i (omega arith)))
 
   -- and no earlier than it begins.
-  pub forward-after : (p n j : ℕ) → ((i : ℕ) → i ≤ p + n → Within (at l i)) → writeOf (at l p) j ≤ writeOf (at l (p + n)) (forwardBy l p n j)
+  pub forward-after : (p n j : ℕ) → ((i : ℕ) → i ≤ p + n → Limited (at l i)) → writeOf (at l p) j ≤ writeOf (at l (p + n)) (forwardBy l p n j)
   unfolding forwardBy
   forward-after p zero j w = let e : p + 0 ≡ p = omega arith in rw e (omega arith)
   forward-after p (suc n) j w =
       omega (arith, forward-later (at l (p + n)) (at l (p + suc n)) (w (p + suc n) (omega arith) .period-pos) (forwardBy l p n j), forward-after p n j (λ i h. w i (omega arith)))
 
   -- A way backward reads no later than it begins.
-  pub backward-before : (p n m : ℕ) → ((i : ℕ) → i ≤ p + n → Within (at l i)) → (j : Job) → backwardBy l p n m ≡ Of j → readOf (at l p) (j .0) ≤ readOf (at l (p + n)) m
+  pub backward-before : (p n m : ℕ) → ((i : ℕ) → i ≤ p + n → Limited (at l i)) → (j : Job) → backwardBy l p n m ≡ Of j → readOf (at l p) (j .0) ≤ readOf (at l (p + n)) m
   unfolding backwardBy onLatest
   backward-before p zero m w j e =
       let z : p + 0 ≡ p = omega arith in
@@ -47,16 +47,16 @@ module _ (l : List Task) where
 
 -- ---- of a chain that passes the checks 8 and 5
 
-module _ (l : List Task) (ok : Sound l) where
-  upto : (p : ℕ) → p < length l → (i : ℕ) → i ≤ p → Within (at l i)
+module _ (l : List Place) (ok : Sound l) where
+  upto : (p : ℕ) → p < length l → (i : ℕ) → i ≤ p → Limited (at l i)
   upto p h i g = ok .each i (omega arith)
 
   -- from place p to place q
   module _ (p q : ℕ) (low : p ≤ q) (high : q < length l) where
-    between : (i : ℕ) → i ≤ p + (q - p) → Within (at l i)
+    between : (i : ℕ) → i ≤ p + (q - p) → Limited (at l i)
     between i g = ok .each i (omega arith)
 
-    pub forward-fits : (j : ℕ) → writeOf (at l q) (forwardBy l p (q - p) j) ≤ writeOf (at l p) j + 55000000
+    pub forward-fits : (j : ℕ) → writeOf (at l q) (forwardBy l p (q - p) j) ≤ writeOf (at l p) j + 55011000
     forward-fits j =
         let e : p + (q - p) ≡ q = omega arith in
         let f = forward-range l p (q - p) j between in

@@ -13,7 +13,7 @@ use Rattle.schedule.specs.declared.Route.{Route}
 use Rattle.schedule.specs.Schedules.{numberOf, padded, zeroNumbered, emptyRoute, routeOf}
 use Rattle.schedule.specs.Padding.{padded-none, padded-set, take-padded, length-padded}
 use Rattle.file_reader.specs.declared.Record.{Record}
-use Rattle.file_reader.specs.declared.Record.the-variants.{Task, Chain, End, Fault}
+use Rattle.file_reader.specs.declared.Record.the-variants.{Task, Chain, Gap, End, Fault}
 use Rattle.file_reader.specs.declared.FileRead.{FileRead}
 use Rattle.file_reader.specs.Reading.{chainField, recordOf, refusedFile, acceptedFile, afterRecord, readFrom, readFile}
 use Rattle.file_reader.specs.Records.{tells}
@@ -22,7 +22,7 @@ pub map-snoc : {A B : Type 0} (f : A → B) (l : List A) (x : A) → map f (l ++
 map-snoc f [] x = refl
 map-snoc {B = B} f (y ∷ l) x = ap (λ (r : List B). f y ∷ r) (map-snoc f l x)
 
-pub record Going (bytes : List ℕ) (tasks : List NumberedTask) (numbers : List ℕ) (routes : List Route) (count chains at : ℕ) : Type 0 where
+pub record Going (bytes : List ℕ) (tasks : List NumberedTask) (numbers : List ℕ) (routes : List Route) (count chains gap at : ℕ) : Type 0 where
   pub read : List NumberedTask
   pub placed : List (List ℕ)
   pub left : ℕ
@@ -35,9 +35,9 @@ pub record Going (bytes : List ℕ) (tasks : List NumberedTask) (numbers : List 
   pub few-chains : chains ≤ 4
   pub inside : at ≤ length bytes
   pub enough : length bytes - at ≤ left
-  pub whole : readFile bytes ≡ readFrom left read placed at (drop at bytes)
+  pub whole : readFile bytes ≡ readFrom left read placed gap at (drop at bytes)
 
-pub going-start : (bytes : List ℕ) → Going bytes (replicate 32 zeroNumbered) (replicate 32 0) (replicate 4 emptyRoute) 0 0 0
+pub going-start : (bytes : List ℕ) → Going bytes (replicate 32 zeroNumbered) (replicate 32 0) (replicate 4 emptyRoute) 0 0 0 0
 going-start bytes = record {
   read = [];
   placed = [];
@@ -54,7 +54,7 @@ going-start bytes = record {
   whole = refl;
 }
 
-module _ (bytes : List ℕ) (tasks : List NumberedTask) (numbers : List ℕ) (routes : List Route) (count chains at : ℕ) (g : Going bytes tasks numbers routes count chains at) where
+module _ (bytes : List ℕ) (tasks : List NumberedTask) (numbers : List ℕ) (routes : List Route) (count chains gap at : ℕ) (g : Going bytes tasks numbers routes count chains gap at) where
   pub going-long : length numbers ≡ 32
   going-long = ap length (g .numbers-are) ∙ length-padded 0 32 (map numberOf (g .read)) (simp length-map (omega (arith, g .counted, g .few)))
 
@@ -65,30 +65,33 @@ module _ (bytes : List ℕ) (tasks : List NumberedTask) (numbers : List ℕ) (ro
       ∙ take-padded 0 32 (map numberOf (g .read)) (omega (arith, g .few))
 
   -- a record that was judged to be r
-  module _ (r : Record) (judged : r ≡ recordOf (take count numbers) chains (drop at bytes)) where
-    same : recordOf (map numberOf (g .read)) (length (g .placed)) (drop at bytes) ≡ r
+  module _ (r : Record) (judged : r ≡ recordOf (take count numbers) chains gap (drop at bytes)) where
+    same : recordOf (map numberOf (g .read)) (length (g .placed)) gap (drop at bytes) ≡ r
     same =
-        ap (λ (l : List ℕ). recordOf l (length (g .placed)) (drop at bytes)) (sym known-are)
-        ∙ ap (λ (k : ℕ). recordOf (take count numbers) k (drop at bytes)) (sym (g .placed-counted)) ∙ sym judged
+        ap (λ (l : List ℕ). recordOf l (length (g .placed)) gap (drop at bytes)) (sym known-are)
+        ∙ ap (λ (k : ℕ). recordOf (take count numbers) k gap (drop at bytes)) (sym (g .placed-counted)) ∙ sym judged
 
-    turn : at < length bytes → readFile bytes ≡ afterRecord (readFrom (g .left - 1)) (g .read) (g .placed) at (drop at bytes) r
+    turn : at < length bytes → readFile bytes ≡ afterRecord (readFrom (g .left - 1)) (g .read) (g .placed) gap at (drop at bytes) r
     unfolding readFrom
     turn h =
         let e : g .left ≡ suc (g .left - 1) = omega (arith, g .enough) in
-        g .whole ∙ ap (λ (k : ℕ). readFrom k (g .read) (g .placed) at (drop at bytes)) e
-        ∙ ap (afterRecord (readFrom (g .left - 1)) (g .read) (g .placed) at (drop at bytes)) same
+        g .whole ∙ ap (λ (k : ℕ). readFrom k (g .read) (g .placed) gap at (drop at bytes)) e
+        ∙ ap (afterRecord (readFrom (g .left - 1)) (g .read) (g .placed) gap at (drop at bytes)) same
 
   module _ (h : at < length bytes) where
-    pub task-inside : (t : NumberedTask) → Task t ≡ recordOf (take count numbers) chains (drop at bytes) → (at + 18 ≤ length bytes) × (count < 32)
+    pub task-inside : (t : NumberedTask) → Task t ≡ recordOf (take count numbers) chains gap (drop at bytes) → (at + 18 ≤ length bytes) × (count < 32)
     task-inside t e =
-        let i = tells _ _ _ _ (sym e) in
+        let i = tells _ _ _ _ _ (sym e) in
         (omega (arith, i .long, length-drop at bytes), omega (arith, i .few, ap length known-are, length-map (g .read) numberOf, g .counted))
 
-    pub chain-inside : (p : ℕ) → Chain p ≡ recordOf (take count numbers) chains (drop at bytes) → (4 + 2 * p ≤ length (drop at bytes)) × (p ≤ 12) × (at + (4 + 2 * p) ≤ length bytes) × (chains < 4)
-    chain-inside p e = let i = tells _ _ _ _ (sym e) in (i .long, i .few, omega (arith, i .long, length-drop at bytes), i .few-chains)
+    pub chain-inside : (p : ℕ) → Chain p ≡ recordOf (take count numbers) chains gap (drop at bytes) → (4 + 2 * p ≤ length (drop at bytes)) × (p ≤ 12) × (at + (4 + 2 * p) ≤ length bytes) × (chains < 4)
+    chain-inside p e = let i = tells _ _ _ _ _ (sym e) in (i .long, i .few, omega (arith, i .long, length-drop at bytes), i .few-chains)
 
-    pub going-task : (t : NumberedTask) → Task t ≡ recordOf (take count numbers) chains (drop at bytes)
-        → Going bytes (set tasks count t) (set numbers count (t .number)) routes (count + 1) chains (at + 18)
+    pub gap-inside : (v : ℕ) → Gap v ≡ recordOf (take count numbers) chains gap (drop at bytes) → at + 6 ≤ length bytes
+    gap-inside v e = let i = tells _ _ _ _ _ (sym e) in omega (arith, i .long, length-drop at bytes)
+
+    pub going-task : (t : NumberedTask) → Task t ≡ recordOf (take count numbers) chains gap (drop at bytes)
+        → Going bytes (set tasks count t) (set numbers count (t .number)) routes (count + 1) chains gap (at + 18)
     unfolding afterRecord
     going-task t e =
         let i = task-inside t e in
@@ -107,11 +110,11 @@ module _ (bytes : List ℕ) (tasks : List NumberedTask) (numbers : List ℕ) (ro
           few-chains = g .few-chains;
           inside = i .0;
           enough = omega (arith, g .enough);
-          whole = turn (Task t) e h ∙ ap (readFrom (g .left - 1) (g .read ++ (t ∷ [])) (g .placed) (at + 18)) (drop-drop 18 at bytes);
+          whole = turn (Task t) e h ∙ ap (readFrom (g .left - 1) (g .read ++ (t ∷ [])) (g .placed) gap (at + 18)) (drop-drop 18 at bytes);
         }
 
-    pub going-chain : (p : ℕ) → Chain p ≡ recordOf (take count numbers) chains (drop at bytes)
-        → Going bytes tasks numbers (set routes chains (routeOf (chainField (drop at bytes) p))) count (chains + 1) (at + (4 + 2 * p))
+    pub going-chain : (p : ℕ) → Chain p ≡ recordOf (take count numbers) chains gap (drop at bytes)
+        → Going bytes tasks numbers (set routes chains (routeOf (chainField (drop at bytes) p))) count (chains + 1) gap (at + (4 + 2 * p))
     unfolding afterRecord
     going-chain p e =
         let i = chain-inside p e in
@@ -131,32 +134,50 @@ module _ (bytes : List ℕ) (tasks : List NumberedTask) (numbers : List ℕ) (ro
           few-chains = omega (arith, i .3);
           inside = i .2;
           enough = omega (arith, g .enough);
-          whole = turn (Chain p) e h ∙ ap (readFrom (g .left - 1) (g .read) (g .placed ++ (ch ∷ [])) (at + (4 + 2 * p))) (drop-drop (4 + 2 * p) at bytes);
+          whole = turn (Chain p) e h ∙ ap (readFrom (g .left - 1) (g .read) (g .placed ++ (ch ∷ [])) gap (at + (4 + 2 * p))) (drop-drop (4 + 2 * p) at bytes);
         }
 
-    pub going-fault : (k : ℕ) → Fault k ≡ recordOf (take count numbers) chains (drop at bytes) → refusedFile k at ≡ readFile bytes
+    pub going-gap : (v : ℕ) → Gap v ≡ recordOf (take count numbers) chains gap (drop at bytes) → Going bytes tasks numbers routes count chains v (at + 6)
+    unfolding afterRecord
+    going-gap v e = record {
+      read = g .read;
+      placed = g .placed;
+      left = g .left - 1;
+      tasks-are = g .tasks-are;
+      numbers-are = g .numbers-are;
+      routes-are = g .routes-are;
+      counted = g .counted;
+      placed-counted = g .placed-counted;
+      few = g .few;
+      few-chains = g .few-chains;
+      inside = gap-inside v e;
+      enough = omega (arith, g .enough);
+      whole = turn (Gap v) e h ∙ ap (readFrom (g .left - 1) (g .read) (g .placed) v (at + 6)) (drop-drop 6 at bytes);
+    }
+
+    pub going-fault : (k : ℕ) → Fault k ≡ recordOf (take count numbers) chains gap (drop at bytes) → refusedFile k at ≡ readFile bytes
     unfolding afterRecord
     going-fault k e = sym (turn (Fault k) e h)
 
-    pub going-after : End ≡ recordOf (take count numbers) chains (drop at bytes) → 4 < length (drop at bytes) → refusedFile 4 (at + 4) ≡ readFile bytes
+    pub going-after : End ≡ recordOf (take count numbers) chains gap (drop at bytes) → 4 < length (drop at bytes) → refusedFile 4 (at + 4) ≡ readFile bytes
     unfolding afterRecord
     going-after e k =
-        sym (turn End e h ∙ ap (λ (b : _). cond b (refusedFile 4 (at + 4)) (acceptedFile (g .read) (g .placed))) (lt-ltb 4 (length (drop at bytes)) k))
+        sym (turn End e h ∙ ap (λ (b : _). cond b (refusedFile 4 (at + 4)) (acceptedFile (g .read) (g .placed) gap)) (lt-ltb 4 (length (drop at bytes)) k))
 
-    pub going-end : End ≡ recordOf (take count numbers) chains (drop at bytes) → length (drop at bytes) ≤ 4
-        → _≡_ {A = FileRead} (record { refusal = none; schedule = record { tasks = tasks; routes = routes; count = count; chains = chains } }) (readFile bytes)
+    pub going-end : End ≡ recordOf (take count numbers) chains gap (drop at bytes) → length (drop at bytes) ≤ 4
+        → _≡_ {A = FileRead} (record { refusal = none; schedule = record { tasks = tasks; routes = routes; count = count; chains = chains; gap = gap } }) (readFile bytes)
     unfolding afterRecord
     going-end e k =
         rw (g .tasks-are, g .routes-are, g .counted, g .placed-counted)
-        (sym (turn End e h ∙ ap (λ (b : _). cond b (refusedFile 4 (at + 4)) (acceptedFile (g .read) (g .placed))) (le-ltb 4 (length (drop at bytes)) k)))
+        (sym (turn End e h ∙ ap (λ (b : _). cond b (refusedFile 4 (at + 4)) (acceptedFile (g .read) (g .placed) gap)) (le-ltb 4 (length (drop at bytes)) k)))
 
   -- Where no byte is left the end is missing.
   pub going-stop : length bytes ≤ at → refusedFile 1 at ≡ readFile bytes
   unfolding readFrom recordOf afterRecord
   going-stop h =
       let e : drop at bytes ≡ [] = drop-of-length-le bytes {i = at} h in
-      sym (g .whole ∙ ap (readFrom (g .left) (g .read) (g .placed) at) e ∙ none-left (g .left))
+      sym (g .whole ∙ ap (readFrom (g .left) (g .read) (g .placed) gap at) e ∙ none-left (g .left))
     where
-      none-left : (n : ℕ) → readFrom n (g .read) (g .placed) at [] ≡ refusedFile 1 at
+      none-left : (n : ℕ) → readFrom n (g .read) (g .placed) gap at [] ≡ refusedFile 1 at
       none-left zero = refl
       none-left (suc n) = refl

@@ -1,5 +1,5 @@
--- Document 01, "Schedule file" and "Refusals, call by call", with order 1 of document 02: reading a file, record by record, up to the first fault.
--- A record is judged on the bytes from its offset on, the numbers of the tasks before it, and the number of chains before it.
+-- Document 01, "Schedule file" and "Refusals, call by call", with orders 1 and 5 of document 02: reading a file, record by record, up to the first fault.
+-- A record is judged on the bytes from its offset on, the numbers of the tasks before it, the number of chains before it, and the gap before it, 0 where none stands there.
 use Prim.Native.Nat.{ℕ, zero, suc, _+_, _-_, _*_, _/_}
 use mathlib.Core.Bool.{Bool, true, false, cond, _&&_}
 use mathlib.Core.List.{List, [], _∷_, _++_, map}
@@ -7,10 +7,11 @@ use lib.Dec.{ltb, leb, eqb}
 use lib.ListN.{length, getD, drop}
 use Rattle.refusal.specs.Refusals.{refusal, none}
 use Rattle.little_endian.specs.LittleEndian.{numberAt}
+use Rattle.task.specs.Jobs.{gapLimit}
 use Rattle.schedule.specs.declared.NumberedTask.{NumberedTask}
 use Rattle.schedule.specs.Schedules.{numberOf, taskRule, known, padded, scheduleOf, emptySchedule}
 use Rattle.file_reader.specs.declared.Record.{Record}
-use Rattle.file_reader.specs.declared.Record.the-variants.{Task, Chain, End, Fault}
+use Rattle.file_reader.specs.declared.Record.the-variants.{Task, Chain, Gap, End, Fault}
 use Rattle.file_reader.specs.declared.FileRead.{FileRead}
 
 -- ---- the fields of a record
@@ -39,6 +40,10 @@ chainField l p = numbersFrom l 4 p
 abbrev pub chainEntries : List ℕ → ℕ → List ℕ
 chainEntries l p = padded 12 0 (chainField l p)
 
+-- Order 5, kind 4: the gap (2 bytes).
+abbrev pub gapField : List ℕ → ℕ
+gapField l = numberAt l 4 2
+
 -- ---- one record
 
 -- The number of the task before, or 0.
@@ -63,34 +68,45 @@ taskRecord numbers chains l =
 abbrev pub placesField : List ℕ → ℕ
 placesField l = (lengthField l - 4) / 2
 
--- 2: wrong length. 4: chain first, or a fifth chain. 6: unknown task in the chain.
-unfoldable pub chainRecord : List ℕ → ℕ → List ℕ → Record
-chainRecord numbers chains l =
+-- 2: wrong length. 4: a fifth chain, chain first, or a chain after the gap. 6: unknown task in the chain.
+unfoldable pub chainRecord : List ℕ → ℕ → ℕ → List ℕ → Record
+chainRecord numbers chains gap l =
     cond (eqb (lengthField l) (4 + 2 * placesField l) && (leb 1 (placesField l) && leb (placesField l) 12))
-    (cond (ltb chains 4 && leb 1 (length numbers))
+    (cond (ltb chains 4 && (leb 1 (length numbers) && eqb gap 0))
     (cond (allKnown numbers (chainField l (placesField l))) (Chain (placesField l)) (Fault 6))
     (Fault 4))
     (Fault 2)
 
--- Kind 3, length 4. 2: wrong length. 4: end before a chain.
+-- Kind 3, length 4. 2: wrong length. 4: end before the first chain.
 unfoldable pub endRecord : ℕ → ℕ → Record
 endRecord long chains = cond (eqb long 4) (cond (eqb chains 0) (Fault 4) End) (Fault 2)
 
+-- Order 5: "kind 4, length 6, 2-byte gap of 1 to 1,000, stands after the last chain, at most once; .. any other value is refused as 5 at the record's offset. Misplaced or twice is 4".
+-- 2: wrong length. 4: a gap before the first chain, or a second one. 5: a value that is not 1 to 1,000. A task after the gap stands after a chain too, so it is 4.
+unfoldable pub gapRecord : ℕ → ℕ → List ℕ → Record
+gapRecord chains gap l =
+    cond (eqb (lengthField l) 6)
+    (cond (leb 1 chains && eqb gap 0)
+    (cond (leb 1 (gapField l) && leb (gapField l) gapLimit) (Gap (gapField l)) (Fault 5))
+    (Fault 4))
+    (Fault 2)
+
 -- 3: unknown kind.
-unfoldable pub kindRecord : ℕ → List ℕ → ℕ → List ℕ → Record
-kindRecord kind numbers chains l =
+unfoldable pub kindRecord : ℕ → List ℕ → ℕ → ℕ → List ℕ → Record
+kindRecord kind numbers chains gap l =
     cond (eqb kind 1) (taskRecord numbers chains l)
-    (cond (eqb kind 2) (chainRecord numbers chains l)
+    (cond (eqb kind 2) (chainRecord numbers chains gap l)
     (cond (eqb kind 3) (endRecord (lengthField l) chains)
-    (Fault 3)))
+    (cond (eqb kind 4) (gapRecord chains gap l)
+    (Fault 3))))
 
 -- 1: fewer than 4 bytes remain. 2: length below 4. 1: length runs past the file. Then by kind.
-unfoldable pub recordOf : List ℕ → ℕ → List ℕ → Record
-recordOf numbers chains l =
+unfoldable pub recordOf : List ℕ → ℕ → ℕ → List ℕ → Record
+recordOf numbers chains gap l =
     cond (ltb (length l) 4) (Fault 1)
     (cond (ltb (lengthField l) 4) (Fault 2)
     (cond (ltb (length l) (lengthField l)) (Fault 1)
-    (kindRecord (kindField l) numbers chains l)))
+    (kindRecord (kindField l) numbers chains gap l)))
 
 -- ---- the file
 
@@ -98,22 +114,24 @@ recordOf numbers chains l =
 abbrev pub refusedFile : ℕ → ℕ → FileRead
 refusedFile number place = record { refusal = refusal number place; schedule = emptySchedule }
 
-abbrev pub acceptedFile : List NumberedTask → List (List ℕ) → FileRead
-acceptedFile tasks chains = record { refusal = none; schedule = scheduleOf tasks chains }
+-- A file with no gap record has the gap 0.
+abbrev pub acceptedFile : List NumberedTask → List (List ℕ) → ℕ → FileRead
+acceptedFile tasks chains gap = record { refusal = none; schedule = scheduleOf tasks chains gap }
 
 -- Where reading goes after a record; `go` reads on from the next one. A byte after end is 4 at that byte.
-unfoldable pub afterRecord : (List NumberedTask → List (List ℕ) → ℕ → List ℕ → FileRead) → List NumberedTask → List (List ℕ) → ℕ → List ℕ → Record → FileRead
-afterRecord go tasks chains at l (Task t) = go (tasks ++ (t ∷ [])) chains (at + 18) (drop 18 l)
-afterRecord go tasks chains at l (Chain p) = go tasks (chains ++ (chainField l p ∷ [])) (at + (4 + 2 * p)) (drop (4 + 2 * p) l)
-afterRecord go tasks chains at l End = cond (ltb 4 (length l)) (refusedFile 4 (at + 4)) (acceptedFile tasks chains)
-afterRecord go tasks chains at l (Fault k) = refusedFile k at
+unfoldable pub afterRecord : (List NumberedTask → List (List ℕ) → ℕ → ℕ → List ℕ → FileRead) → List NumberedTask → List (List ℕ) → ℕ → ℕ → List ℕ → Record → FileRead
+afterRecord go tasks chains gap at l (Task t) = go (tasks ++ (t ∷ [])) chains gap (at + 18) (drop 18 l)
+afterRecord go tasks chains gap at l (Chain p) = go tasks (chains ++ (chainField l p ∷ [])) gap (at + (4 + 2 * p)) (drop (4 + 2 * p) l)
+afterRecord go tasks chains gap at l (Gap g) = go tasks chains g (at + 6) (drop 6 l)
+afterRecord go tasks chains gap at l End = cond (ltb 4 (length l)) (refusedFile 4 (at + 4)) (acceptedFile tasks chains gap)
+afterRecord go tasks chains gap at l (Fault k) = refusedFile k at
 
--- Reading from a record on: the tasks and the chains before it, its offset, and the bytes from there on.
+-- Reading from a record on: the tasks, the chains and the gap before it, its offset, and the bytes from there on.
 -- The first number is at least the number of these bytes, so enough for their records; at 0 no byte is left, and that is 1.
-unfoldable pub readFrom : ℕ → List NumberedTask → List (List ℕ) → ℕ → List ℕ → FileRead
-readFrom zero tasks chains at l = refusedFile 1 at
-readFrom (suc n) tasks chains at l = afterRecord (readFrom n) tasks chains at l (recordOf (map numberOf tasks) (length chains) l)
+unfoldable pub readFrom : ℕ → List NumberedTask → List (List ℕ) → ℕ → ℕ → List ℕ → FileRead
+readFrom zero tasks chains gap at l = refusedFile 1 at
+readFrom (suc n) tasks chains gap at l = afterRecord (readFrom n) tasks chains gap at l (recordOf (map numberOf tasks) (length chains) gap l)
 
 -- Reading a file: from its first byte on.
 abbrev pub readFile : List ℕ → FileRead
-readFile l = readFrom (length l) [] [] 0 l
+readFile l = readFrom (length l) [] [] 0 0 l

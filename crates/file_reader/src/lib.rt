@@ -9,12 +9,13 @@ ghost use mathlib.Core.Path.{_≡_};
 ghost use Prim.Native.Nat.{_+_, _*_, _≤_, _<_};
 ghost use lib.ListN.{length, take};
 ghost use Rattle.schedule.specs.Schedules.{routeOf};
-ghost use Rattle.file_reader.specs.Reading.{lengthField, taskField, lastOf, allKnown, chainField, chainEntries, taskRecord, chainRecord, endRecord, recordOf, refusedFile, readFile};
+ghost use Rattle.file_reader.specs.Reading.{lengthField, taskField, lastOf, allKnown, chainField, chainEntries, taskRecord, chainRecord, endRecord, gapRecord, recordOf, refusedFile, readFile};
 
-// What one record is: a task, a chain of so many places, the end, or the number of its fault.
+// What one record is: a task, a chain of so many places, the gap, the end, or the number of its fault.
 pub enum Record {
     Task(NumberedTask),
     Chain(usize),
+    Gap(u64),
     End,
     Fault(u64),
 }
@@ -120,10 +121,17 @@ fn last_of(numbers: &[u64], count: usize) -> u64
     numbers[count - 1]
 }
 
-// A chain record.
-fn chain_record(rest: &[u8], long: u64, numbers: &[u64], count: usize, chains: usize) -> Record
+// A chain record, where `gap` is the gap before it, 0 for none.
+fn chain_record(
+    rest: &[u8],
+    long: u64,
+    numbers: &[u64],
+    count: usize,
+    chains: usize,
+    gap: u64,
+) -> Record
     requires { ⌜ (long ≡ lengthField (now rest)) × (4 ≤ long) × (long ≤ length (now rest)) × (count ≤ length (now numbers)) ⌝ }
-    ensures { λ r. ⌜ r ≡ chainRecord (take count (now (numbers .entry))) chains (now (rest .entry)) ⌝ }
+    ensures { λ r. ⌜ r ≡ chainRecord (take count (now (numbers .entry))) chains gap (now (rest .entry)) ⌝ }
 {
     let p = (long - 4) / 2;
     if long != 4 + 2 * p {
@@ -139,6 +147,9 @@ fn chain_record(rest: &[u8], long: u64, numbers: &[u64], count: usize, chains: u
         return Record::Fault(4);
     }
     if count == 0 {
+        return Record::Fault(4);
+    }
+    if gap != 0 {
         return Record::Fault(4);
     }
     if all_known(rest, p as usize, numbers, count) {
@@ -161,10 +172,34 @@ fn end_record(long: u64, chains: usize) -> Record
     Record::End
 }
 
+// The gap record of order 5.
+fn gap_record(rest: &[u8], long: u64, chains: usize, gap: u64) -> Record
+    requires { ⌜ (long ≡ lengthField (now rest)) × (long ≤ length (now rest)) ⌝ }
+    ensures { λ r. ⌜ r ≡ gapRecord chains gap (now (rest .entry)) ⌝ }
+{
+    if long != 6 {
+        return Record::Fault(2);
+    }
+    if chains < 1 {
+        return Record::Fault(4);
+    }
+    if gap != 0 {
+        return Record::Fault(4);
+    }
+    let g = little_endian::number_at(rest, 4, 2);
+    if g < 1 {
+        return Record::Fault(5);
+    }
+    if 1000 < g {
+        return Record::Fault(5);
+    }
+    Record::Gap(g)
+}
+
 // The record that bytes begin with, judged in document 01's order: 1, 2, 1, 3, 2, 4, 5, 6. A further kind is one more arm.
-fn record_of(rest: &[u8], numbers: &[u64], count: usize, chains: usize) -> Record
+fn record_of(rest: &[u8], numbers: &[u64], count: usize, chains: usize, gap: u64) -> Record
     requires { ⌜ count ≤ length (now numbers) ⌝ }
-    ensures { λ r. ⌜ r ≡ recordOf (take count (now (numbers .entry))) chains (now (rest .entry)) ⌝ }
+    ensures { λ r. ⌜ r ≡ recordOf (take count (now (numbers .entry))) chains gap (now (rest .entry)) ⌝ }
 {
     if rest.len() < 4 {
         return Record::Fault(1);
@@ -181,10 +216,13 @@ fn record_of(rest: &[u8], numbers: &[u64], count: usize, chains: usize) -> Recor
         return task_record(rest, long, numbers, count, chains);
     }
     if kind == 2 {
-        return chain_record(rest, long, numbers, count, chains);
+        return chain_record(rest, long, numbers, count, chains, gap);
     }
     if kind == 3 {
         return end_record(long, chains);
+    }
+    if kind == 4 {
+        return gap_record(rest, long, chains, gap);
     }
     Record::Fault(3)
 }
@@ -214,6 +252,7 @@ pub fn refused(number: u64, place: usize) -> FileRead
             routes: [none; 4],
             count: 0,
             chains: 0,
+            gap: 0,
         },
     }
 }
@@ -239,10 +278,11 @@ pub fn read_file(bytes: &[u8]) -> FileRead
     let mut routes = [none; 4];
     let mut count: usize = 0;
     let mut chains: usize = 0;
+    let mut gap: u64 = 0;
     let mut at: usize = 0;
     while at < bytes.len() {
         let rest = &bytes[at..];
-        let r = record_of(rest, &numbers, count, chains);
+        let r = record_of(rest, &numbers, count, chains, gap);
         match r {
             Record::Task(t) => {
                 numbers[count] = t.number;
@@ -255,6 +295,10 @@ pub fn read_file(bytes: &[u8]) -> FileRead
                 routes[chains] = c;
                 chains += 1;
                 at += 4 + 2 * p;
+            }
+            Record::Gap(g) => {
+                gap = g;
+                at += 6;
             }
             Record::End => {
                 if 4 < rest.len() {
@@ -270,6 +314,7 @@ pub fn read_file(bytes: &[u8]) -> FileRead
                         routes,
                         count,
                         chains,
+                        gap,
                     },
                 };
             }

@@ -15,20 +15,20 @@ use Rattle.schedule_checks.specs.Checks.{placesRight, faultOf}
 use Rattle.schedule_checks.specs.SoundSchedule.{SoundSchedule}
 use Rattle.file_writer.specs.declared.Written.{Written}
 use Rattle.file_writer.specs.declared.Written.the-variants.{Bytes, Refused}
-use Rattle.file_writer.specs.FileBytes.{chainsBytes, fileBytes}
+use Rattle.file_writer.specs.FileBytes.{chainsBytes, gapBytes, fileBytes}
 use Rattle.file_writer.specs.Lengths.{length-file}
 use Rattle.file_writer.specs.Writing.{lengthVerdict, writtenOf, leftBytes}
 use Rattle.file_writer.specs.Accepted.{Accepted, sound-written}
 
 -- the length that the code works out
-pub file-long : (s : Schedule) → length (s .tasks) ≡ 32 → s .count ≤ 32 → 18 * s .count + length (chainsBytes (chainsIn s)) + 4 ≡ length (fileBytes s)
-file-long s a few = omega (arith, length-file (tasksIn s) (chainsIn s), length-take-le (s .count) (s .tasks) (omega arith))
+pub file-long : (s : Schedule) → length (s .tasks) ≡ 32 → s .count ≤ 32 → 18 * s .count + length (chainsBytes (chainsIn s)) + length (gapBytes (s .gap)) + 4 ≡ length (fileBytes s)
+file-long s a few = omega (arith, length-file (tasksIn s) (chainsIn s) (s .gap), length-take-le (s .count) (s .tasks) (omega arith))
 
 pub record Room (s : Schedule) (lent : ℕ) : Type 0 where
   pub few : s .count ≤ 32
   pub few-chains : s .chains ≤ 4
   pub placed : placesRight (routesIn s) ≡ true
-  pub fits : 18 * s .count + length (chainsBytes (chainsIn s)) + 4 ≤ lent
+  pub fits : 18 * s .count + length (chainsBytes (chainsIn s)) + length (gapBytes (s .gap)) + 4 ≤ lent
   pub whole : length (fileBytes s) ≤ lent
   pub counted : 18 * s .count ≡ 18 * length (tasksIn s)
 

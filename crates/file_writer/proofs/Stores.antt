@@ -1,5 +1,5 @@
 -- What stores one after the other leave.
-use Prim.Native.Nat.{ℕ, _+_, _*_, _≤_, _<_}
+use Prim.Native.Nat.{ℕ, zero, suc, _+_, _*_, _≤_, _<_}
 use native.Mathlib.Omega.{arith}
 use mathlib.Core.Path.{_≡_, refl, sym, ap, _∙_}
 use mathlib.Core.List.{List, [], _++_, map, append-assoc}
@@ -12,7 +12,7 @@ use Rattle.chain.proofs.Front.{front-cons, front-end}
 use Rattle.schedule.specs.declared.NumberedTask.{NumberedTask}
 use Rattle.schedule.specs.declared.Route.{Route}
 use Rattle.schedule.specs.Schedules.{zeroNumbered, noRoute, placesOf}
-use Rattle.file_writer.specs.FileBytes.{taskBytes, tasksBytes, numbersBytes, chainBytes, chainsBytes, endBytes, fileOf}
+use Rattle.file_writer.specs.FileBytes.{taskBytes, tasksBytes, numbersBytes, chainBytes, chainsBytes, gapBytes, endBytes, fileOf}
 use Rattle.file_writer.specs.Lengths.{length-task, length-tasks}
 
 -- two runs, the second w bytes on
@@ -56,17 +56,18 @@ pub places-end : (out ch : List ℕ) (at places i : ℕ) → places ≤ i → pl
 unfolding numbersBytes
 places-end out ch at places i h g = rw (front-end ch places i h g)
 
+-- a record's length and kind are 4 bytes
+head-long : (at long kind : ℕ) → at + length (bytesOf 2 long ++ bytesOf 2 kind) ≡ at + 4
+head-long at long kind = simp (length-append, length-bytes)
+
 -- ---- chains
 
 -- a chain record is its head and its numbers
 module _ (a b c ch : List ℕ) (at places : ℕ) (counted : places ≡ length ch) where
-  head-long : at + length (bytesOf 2 (4 + 2 * places) ++ bytesOf 2 2) ≡ at + 4
-  head-long = simp (length-append, length-bytes)
-
   pub chain-stored : b ≡ sets a at (bytesOf 2 (4 + 2 * places) ++ bytesOf 2 2) → c ≡ sets b (at + 4) (numbersBytes ch) → c ≡ sets a at (chainBytes ch)
   unfolding chainBytes
   chain-stored hb hc =
-      two-runs a b c at (at + 4) (bytesOf 2 (4 + 2 * places) ++ bytesOf 2 2) (numbersBytes ch) head-long hb hc
+      two-runs a b c at (at + 4) (bytesOf 2 (4 + 2 * places) ++ bytesOf 2 2) (numbersBytes ch) (head-long at (4 + 2 * places) 2) hb hc
       ∙ ap (sets a at) (append-assoc (bytesOf 2 (4 + 2 * places)) (bytesOf 2 2) (numbersBytes ch))
       ∙ ap (λ (n : ℕ). sets a at (bytesOf 2 (4 + 2 * n) ++ (bytesOf 2 2 ++ numbersBytes ch))) counted
 
@@ -92,12 +93,23 @@ module _ (rs : List Route) (chains i : ℕ) (h : chains ≤ i) (g : chains ≤ l
   unfolding chainsBytes
   left-none = rw (front-end rs chains i h g)
 
+-- ---- the gap
+
+-- a gap record is its head and the gap
+pub gap-stored : (a b c : List ℕ) (at g : ℕ) → (g ≡ 0 → ⊥) → b ≡ sets a at (bytesOf 2 6 ++ bytesOf 2 4) → c ≡ sets b (at + 4) (bytesOf 2 g) → c ≡ sets a at (gapBytes g)
+unfolding gapBytes
+gap-stored a b c at zero h hb hc = absurd (h refl)
+gap-stored a b c at (suc g) h hb hc =
+    two-runs a b c at (at + 4) (bytesOf 2 6 ++ bytesOf 2 4) (bytesOf 2 (suc g)) (head-long at 6 4) hb hc
+    ∙ ap (sets a at) (append-assoc (bytesOf 2 6) (bytesOf 2 4) (bytesOf 2 (suc g)))
+
 -- ---- the whole file
 
-module _ (l a b d : List ℕ) (ts : List NumberedTask) (chs : List (List ℕ)) (from at : ℕ) (fits : length (fileOf ts chs) ≤ length l) (start : from ≡ 18 * length ts) (next : at ≡ from + length (chainsBytes chs)) where
-  pub file-stored : a ≡ sets l 0 (tasksBytes ts) → b ≡ sets a from (chainsBytes chs) → d ≡ sets b at (bytesOf 2 4 ++ bytesOf 2 3) → d ≡ fileOf ts chs ++ drop (length (fileOf ts chs)) l
+module _ (l a b c d : List ℕ) (ts : List NumberedTask) (chs : List (List ℕ)) (g from at end : ℕ) (fits : length (fileOf ts chs g) ≤ length l) (start : from ≡ 18 * length ts) (next : at ≡ from + length (chainsBytes chs)) (last : end ≡ at + length (gapBytes g)) where
+  pub file-stored : a ≡ sets l 0 (tasksBytes ts) → b ≡ sets a from (chainsBytes chs) → c ≡ sets b at (gapBytes g) → d ≡ sets c end (bytesOf 2 4 ++ bytesOf 2 3) → d ≡ fileOf ts chs g ++ drop (length (fileOf ts chs g)) l
   unfolding fileOf endBytes
-  file-stored ha hb hd =
+  file-stored ha hb hc hd =
       let f : 0 + length (tasksBytes ts) ≡ from = omega (arith, length-tasks ts) in
-      let g : d ≡ sets a from (chainsBytes chs ++ endBytes) = two-runs a b d from at (chainsBytes chs) endBytes (sym next) hb hd in
-      two-runs l a d 0 from (tasksBytes ts) (chainsBytes chs ++ endBytes) f ha g ∙ sets-front l (fileOf ts chs) fits
+      let h : d ≡ sets b at (gapBytes g ++ endBytes) = two-runs b c d at end (gapBytes g) endBytes (sym last) hc hd in
+      let k : d ≡ sets a from (chainsBytes chs ++ (gapBytes g ++ endBytes)) = two-runs a b d from at (chainsBytes chs) (gapBytes g ++ endBytes) (sym next) hb h in
+      two-runs l a d 0 from (tasksBytes ts) (chainsBytes chs ++ (gapBytes g ++ endBytes)) f ha k ∙ sets-front l (fileOf ts chs g) fits

@@ -1,5 +1,5 @@
--- Document 01, "Schedule file", with order 1 of document 02: the bytes of a schedule. Records of length (2 bytes, the whole record), kind (2 bytes), body; little-endian.
-use Prim.Native.Nat.{ℕ, _+_, _*_}
+-- Document 01, "Schedule file", with orders 1 and 5 of document 02: the bytes of a schedule. Records of length (2 bytes, the whole record), kind (2 bytes), body; little-endian.
+use Prim.Native.Nat.{ℕ, zero, suc, _+_, _*_}
 use mathlib.Core.List.{List, [], _∷_, _++_}
 use lib.ListN.{length}
 use Rattle.little_endian.specs.LittleEndian.{bytesOf}
@@ -30,13 +30,18 @@ unfoldable pub chainsBytes : List (List ℕ) → List ℕ
 chainsBytes [] = []
 chainsBytes (ch ∷ chs) = chainBytes ch ++ chainsBytes chs
 
+-- Order 5: "kind 4, length 6, 2-byte gap of 1 to 1,000, stands after the last chain ..; a gap of 0 is written by leaving it out".
+unfoldable pub gapBytes : ℕ → List ℕ
+gapBytes zero = []
+gapBytes (suc g) = bytesOf 2 6 ++ (bytesOf 2 4 ++ bytesOf 2 (suc g))
+
 -- Kind 3, length 4: end.
 unfoldable pub endBytes : List ℕ
 endBytes = bytesOf 2 4 ++ bytesOf 2 3
 
--- First the tasks, then the chains, then end, then nothing.
-unfoldable pub fileOf : List NumberedTask → List (List ℕ) → List ℕ
-fileOf tasks chains = tasksBytes tasks ++ (chainsBytes chains ++ endBytes)
+-- First the tasks, then the chains, then the gap, then end, then nothing.
+unfoldable pub fileOf : List NumberedTask → List (List ℕ) → ℕ → List ℕ
+fileOf tasks chains gap = tasksBytes tasks ++ (chainsBytes chains ++ (gapBytes gap ++ endBytes))
 
 abbrev pub fileBytes : Schedule → List ℕ
-fileBytes s = fileOf (tasksIn s) (chainsIn s)
+fileBytes s = fileOf (tasksIn s) (chainsIn s) (s .gap)

@@ -16,7 +16,7 @@ use Rattle.file_writer.specs.FileBytes.{fileBytes}
 unfoldable pub lengthVerdict : ℕ → ℕ → Written
 lengthVerdict long lent = cond (leb long lent) (Bytes long) (Refused (refusal 11 0))
 
--- 8, 5, 6 of the schedule; 11.
+-- 8; 5, of the gap after the tasks; 6 of the schedule; 11.
 unfoldable pub writtenOf : Schedule → ℕ → Written
 writtenOf s lent = cond (eqb (faultOf s .number) 0) (lengthVerdict (length (fileBytes s)) lent) (Refused (faultOf s))
 

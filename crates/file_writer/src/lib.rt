@@ -14,7 +14,7 @@ ghost use lib.Seq.{sets};
 ghost use Rattle.schedule.specs.Schedules.{placesOf};
 ghost use Rattle.schedule_checks.specs.Checks.{placesRight};
 ghost use Rattle.file_writer.specs.Writing.{writtenOf, Writes};
-ghost use Rattle.file_writer.specs.FileBytes.{taskBytes, tasksBytes, numbersBytes, chainBytes, chainsBytes};
+ghost use Rattle.file_writer.specs.FileBytes.{taskBytes, tasksBytes, numbersBytes, chainBytes, chainsBytes, gapBytes};
 
 // The length of the file that was written, or the refusal.
 pub enum Written {
@@ -46,7 +46,17 @@ fn routes_length(routes: [Route; 4], chains: usize) -> usize
     long
 }
 
-// What writing answers, `lent` bytes being lent to it: 8, 5, 6, 11, or the file's length.
+// The length of the gap record; a gap of 0 has none.
+fn gap_length(gap: u64) -> usize
+    ensures { λ r. ⌜ (r ≡ length (gapBytes gap)) × (r ≤ 6) ⌝ }
+{
+    if gap == 0 {
+        return 0;
+    }
+    6
+}
+
+// What writing answers, `lent` bytes being lent to it: 8, 5, 6 of the schedule, 11, or the file's length.
 fn judge(s: Schedule, lent: usize) -> Written
     ensures { λ r. ⌜ r ≡ writtenOf s lent ⌝ }
 {
@@ -55,7 +65,7 @@ fn judge(s: Schedule, lent: usize) -> Written
         return Written::Refused(r);
     }
     let routes = s.routes;
-    let long = 18 * s.count + routes_length(routes, s.chains) + 4;
+    let long = 18 * s.count + routes_length(routes, s.chains) + gap_length(s.gap) + 4;
     if lent < long {
         return Written::Refused(Refusal {
             number: 11,
@@ -139,6 +149,19 @@ fn put_routes(out: &mut [u8], from: usize, routes: [Route; 4], chains: usize) ->
     at
 }
 
+// Stores the gap record, and answers the offset after it. Order 5: a gap of 0 is left out.
+fn put_gap(out: &mut [u8], at: usize, gap: u64) -> usize
+    requires { ⌜ at + length (gapBytes gap) ≤ length (now out) ⌝ }
+    ensures { λ r. ⌜ (now (out .exit) ≡ sets (now (out .entry)) at (gapBytes gap)) × (r ≡ at + length (gapBytes gap)) ⌝ }
+{
+    if gap == 0 {
+        return at;
+    }
+    put_head(out, at, 6, 4);
+    little_endian::put_number(out, at + 4, 2, gap);
+    at + 6
+}
+
 // Writes a schedule's file into lent bytes.
 pub fn write_file(s: Schedule, out: &mut [u8]) -> Written
     ensures { λ r. ⌜ Writes s (now (out .entry)) r (now (out .exit)) ⌝ }
@@ -154,8 +177,10 @@ pub fn write_file(s: Schedule, out: &mut [u8]) -> Written
     let routes = s.routes;
     let count = s.count;
     let chains = s.chains;
+    let gap = s.gap;
     put_tasks(out, tasks, count);
     let at = put_routes(out, 18 * count, routes, chains);
-    put_head(out, at, 4, 3);
+    let end = put_gap(out, at, gap);
+    put_head(out, end, 4, 3);
     w
 }

@@ -1,4 +1,4 @@
--- "Table and walk must agree chain by chain" (order 1 of document 02): the third demand of every chain of every schedule, of the analyses from a schedule.
+-- "Table and walk must agree chain by chain" (order 1 of document 02): the third demand of every chain of every schedule with any permitted gap (order 5), of the analyses from a schedule.
 -- The table that making gives of chain n is read at every tick as walking chain n gives it (`table-is-walk-from`); its greatest latency is the greatest delay of walking and 1 + the greatest age of ageing chain n
 -- (`greatest-from`); two cuts give the same anchors (`cuts-agree-from`); its mean by area is that of walking chain n at every time of a hyperperiod (`mean-from`). With no premise on what making answers: `every-chain-from`, `every-two-cuts-from`.
 use Prim.Native.Nat.{ℕ, suc, _≤_}

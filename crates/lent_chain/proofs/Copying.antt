@@ -16,26 +16,26 @@ use Rattle.schedule.specs.Padding.{padded-none, padded-set}
 use Rattle.lent_chain.specs.LentList.{chainOfList, emptyChain, withTask}
 
 -- the chain while the first k tasks of the list are copied
-unfoldable pub copied : ℕ → List Task → Chain
-copied k ts = record { tasks = padded 12 zeroTask (take k ts); places = length ts }
+unfoldable pub copied : ℕ → ℕ → List Task → Chain
+copied g k ts = record { tasks = padded 12 zeroTask (take k ts); places = length ts; gap = g }
 
 -- nothing yet,
-pub copied-none : (ts : List Task) → emptyChain (length ts) ≡ copied 0 ts
+pub copied-none : (g : ℕ) (ts : List Task) → emptyChain (length ts) g ≡ copied g 0 ts
 unfolding copied
-copied-none ts = ap (λ (l : List Task). record { tasks = l; places = length ts }) (sym (padded-none zeroTask 12))
+copied-none g ts = ap (λ (l : List Task). record { tasks = l; places = length ts; gap = g }) (sym (padded-none zeroTask 12))
 
 -- one task more,
-pub copied-next : (ts : List Task) (i : ℕ) → i < length ts → i < 12 → withTask (copied i ts) i (getD ts i zeroTask) ≡ copied (i + 1) ts
+pub copied-next : (g : ℕ) (ts : List Task) (i : ℕ) → i < length ts → i < 12 → withTask (copied g i ts) i (getD ts i zeroTask) ≡ copied g (i + 1) ts
 unfolding copied
-copied-next ts i h g =
-    ap (λ (l : List Task). record { tasks = l; places = length ts })
-    (padded-set zeroTask 12 (take i ts) i (getD ts i zeroTask) (length-take-le i ts (omega arith)) g
-    ∙ ap (padded 12 zeroTask) (sym (take-suc ts i zeroTask h)) ∙ ap (λ (k : ℕ). padded 12 zeroTask (take k ts)) (sym (add-one i)))
+copied-next g ts i h k =
+    ap (λ (l : List Task). record { tasks = l; places = length ts; gap = g })
+    (padded-set zeroTask 12 (take i ts) i (getD ts i zeroTask) (length-take-le i ts (omega arith)) k
+    ∙ ap (padded 12 zeroTask) (sym (take-suc ts i zeroTask h)) ∙ ap (λ (n : ℕ). padded 12 zeroTask (take n ts)) (sym (add-one i)))
 
 -- and all.
-pub copied-all : (ts : List Task) → copied (min (length ts) 12) ts ≡ chainOfList ts
+pub copied-all : (g : ℕ) (ts : List Task) → copied g (min (length ts) 12) ts ≡ chainOfList g ts
 unfolding copied chainOfList
-copied-all ts = elim (decLe (length ts) 12) [
-  | yes h ↦ ap (λ (l : List Task). record { tasks = padded 12 zeroTask l; places = length ts }) (ap (λ (k : ℕ). take k ts) (min-eq-left h) ∙ take-all (length ts) ts (omega arith) ∙ sym (take-all 12 ts h))
-  | no h ↦ ap (λ (k : ℕ). record { tasks = padded 12 zeroTask (take k ts); places = length ts }) (min-eq-right {m = length ts} (omega arith))
+copied-all g ts = elim (decLe (length ts) 12) [
+  | yes h ↦ ap (λ (l : List Task). record { tasks = padded 12 zeroTask l; places = length ts; gap = g }) (ap (λ (k : ℕ). take k ts) (min-eq-left h) ∙ take-all (length ts) ts (omega arith) ∙ sym (take-all 12 ts h))
+  | no h ↦ ap (λ (k : ℕ). record { tasks = padded 12 zeroTask (take k ts); places = length ts; gap = g }) (min-eq-right {m = length ts} (omega arith))
 ]

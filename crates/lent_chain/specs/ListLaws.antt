@@ -3,9 +3,7 @@ use Prim.Native.Nat.{ℕ, _≤_, _<_}
 use native.Mathlib.Omega.{arith}
 use native.Mathlib.Decide.{decLe}
 use mathlib.Core.Path.{_≡_, refl, ap, _∙_}
-use mathlib.Core.Bool.{cond, _&&_}
 use mathlib.Core.List.{List, [], _∷_}
-use lib.Dec.{leb}
 use lib.ListN.{length, take}
 use lib.Seq.{take-all}
 use borrow.Author.Tests.{lt-leb, le-leb}
@@ -14,8 +12,8 @@ use Rattle.task.specs.declared.Task.{Task}
 use Rattle.chain.specs.declared.Chain.{Chain}
 use Rattle.chain.specs.declared.Verdict.{Verdict}
 use Rattle.chain.specs.declared.Verdict.the-variants as verdict
-use Rattle.chain.specs.Chains.{zeroTask, tasksOf}
-use Rattle.chain.specs.Checks.{afterFault, firstFault, hyperVerdict, verdictFor, verdictOf}
+use Rattle.chain.specs.Chains.{zeroTask, givenOf, placed, tasksOf}
+use Rattle.chain.specs.Checks.{verdictFor, verdictOf}
 use Rattle.schedule.specs.Schedules.{padded}
 use Rattle.schedule.specs.Padding.{take-padded}
 use Rattle.table.specs.Anchors.{Anchor}
@@ -27,43 +25,43 @@ use Rattle.lent_chain.specs.LentList.{chainOfList}
 -- ---- a list of at most twelve records
 
 -- is the chain's tasks, and its length is their number.
-pub list-is-chain : (ts : List Task) → length ts ≤ 12 → tasksOf (chainOfList ts) ≡ ts
+pub list-is-chain : (g : ℕ) (ts : List Task) → length ts ≤ 12 → givenOf (chainOfList g ts) ≡ ts
 unfolding chainOfList
-list-is-chain ts h = ap (λ (l : List Task). take (length ts) (padded 12 zeroTask l)) (take-all 12 ts h) ∙ take-padded zeroTask 12 ts h
+list-is-chain g ts h = ap (λ (l : List Task). take (length ts) (padded 12 zeroTask l)) (take-all 12 ts h) ∙ take-padded zeroTask 12 ts h
 
-pub places-of-list : (ts : List Task) → chainOfList ts .places ≡ length ts
+pub places-of-list : (g : ℕ) (ts : List Task) → chainOfList g ts .places ≡ length ts
 unfolding chainOfList
-places-of-list ts = refl
+places-of-list g ts = refl
 
 -- ---- every other list is refused with 8, and the lists keep their content
 
-pub other-verdict : (ts : List Task) → (1 ≤ length ts → length ts ≤ 12 → ⊥) → verdictOf (chainOfList ts) ≡ verdict.Refused (refusal 8 0)
+pub other-verdict : (g : ℕ) (ts : List Task) → (1 ≤ length ts → length ts ≤ 12 → ⊥) → verdictOf (chainOfList g ts) ≡ verdict.Refused (refusal 8 0)
 unfolding chainOfList verdictFor
-other-verdict [] h = refl
-other-verdict (t ∷ ts) h =
+other-verdict g [] h = refl
+other-verdict g (t ∷ ts) h =
     let many : 12 < length (t ∷ ts) = elim (decLe (length (t ∷ ts)) 12) [
-      | yes g ↦ absurd (h (omega arith) g)
-      | no g ↦ omega arith
+      | yes k ↦ absurd (h (omega arith) k)
+      | no k ↦ omega arith
     ] in
     rw (le-leb 1 (length (t ∷ ts)) (omega arith), lt-leb (length (t ∷ ts)) 12 many)
 
-pub other-refused : (ts : List Task) → (1 ≤ length ts → length ts ≤ 12 → ⊥) → (p a b : ℕ) → madeOf (chainOfList ts) p a b ≡ Refused (refusal 8 0)
+pub other-refused : (g : ℕ) (ts : List Task) → (1 ≤ length ts → length ts ≤ 12 → ⊥) → (p a b : ℕ) → madeOf (chainOfList g ts) p a b ≡ Refused (refusal 8 0)
 unfolding judged madeAfter
-other-refused ts h p a b = rw (other-verdict ts h)
+other-refused g ts h p a b = rw (other-verdict g ts h)
 
-pub other-unwritten : (ts : List Task) → (1 ≤ length ts → length ts ≤ 12 → ⊥) → (p a b : ℕ) → writtenOf (chainOfList ts) p a b ≡ []
+pub other-unwritten : (g : ℕ) (ts : List Task) → (1 ≤ length ts → length ts ≤ 12 → ⊥) → (p a b : ℕ) → writtenOf (chainOfList g ts) p a b ≡ []
 unfolding judged writtenAfter
-other-unwritten ts h p a b = rw (other-verdict ts h)
+other-unwritten g ts h p a b = rw (other-verdict g ts h)
 
 -- ---- lent and by value are one
 
--- Making depends on a chain's tasks and the number of its places alone.
-module _ (c d : Chain) (same : tasksOf c ≡ tasksOf d) (places : c .places ≡ d .places) where
+-- Making depends on a chain's tasks, the number of its places and its gap alone.
+module _ (c d : Chain) (given : givenOf c ≡ givenOf d) (places : c .places ≡ d .places) (gaps : c .gap ≡ d .gap) where
+  same : tasksOf c ≡ tasksOf d
+  same = ap (λ (g : ℕ). placed g (givenOf c)) gaps ∙ ap (placed (d .gap)) given
+
   same-verdict : verdictOf c ≡ verdictOf d
-  unfolding verdictFor
-  same-verdict =
-      ap (λ (n : ℕ). cond (leb 1 n && leb n 12) (afterFault (firstFault 1 (tasksOf c)) (hyperVerdict (tasksOf c))) (verdict.Refused (refusal 8 0))) places
-      ∙ ap (λ (l : List Task). cond (leb 1 (d .places) && leb (d .places) 12) (afterFault (firstFault 1 l) (hyperVerdict l)) (verdict.Refused (refusal 8 0))) same
+  same-verdict = ap (λ (n : ℕ). verdictFor n (c .gap) (givenOf c)) places ∙ ap (λ (g : ℕ). verdictFor (d .places) g (givenOf c)) gaps ∙ ap (verdictFor (d .places) (d .gap)) given
 
   same-judged : (p a b : ℕ) → judged c p a b ≡ judged d p a b
   unfolding judged
@@ -96,5 +94,6 @@ module _ (c d : Chain) (same : tasksOf c ≡ tasksOf d) (places : c .places ≡ 
       }
 
 -- So what is made from a chain's tasks, lent as a list, is what is made from the chain.
-pub lent-as-value : (c : Chain) → length (tasksOf c) ≡ c .places → c .places ≤ 12 → (p : ℕ) (s l s′ l′ : List ℕ) (r : Made) → Makes (chainOfList (tasksOf c)) p s l s′ l′ r → Makes c p s l s′ l′ r
-lent-as-value c e h = same-making (chainOfList (tasksOf c)) c (list-is-chain (tasksOf c) (omega arith)) (places-of-list (tasksOf c) ∙ e)
+pub lent-as-value : (c : Chain) → length (givenOf c) ≡ c .places → c .places ≤ 12 → (p : ℕ) (s l s′ l′ : List ℕ) (r : Made) → Makes (chainOfList (c .gap) (givenOf c)) p s l s′ l′ r → Makes c p s l s′ l′ r
+unfolding chainOfList
+lent-as-value c e h = same-making (chainOfList (c .gap) (givenOf c)) c (list-is-chain (c .gap) (givenOf c) (omega arith)) (places-of-list (c .gap) (givenOf c) ∙ e) refl

@@ -4,10 +4,10 @@ use mathlib.Core.Path.{_≡_, refl, ap, _∙_}
 use mathlib.Core.List.{List, [], _∷_}
 use Rattle.task.specs.declared.Task.{Task}
 use Rattle.task.specs.Jobs.{withinLimits}
-use Rattle.task.specs.Links.{earliestFrom, latestBy, forwardLink, backwardLink}
+use Rattle.task.specs.Links.{earliestFrom, latestOver, forwardLink, backwardLink}
 use Rattle.euclid.specs.Divisor.{euclid, gcdOf, lcmOf}
 use Rattle.chain.specs.Chains.{forwardBy, onLatest, backwardBy}
-use Rattle.chain.specs.Checks.{firstFault, hyperVerdict, verdictFor}
+use Rattle.chain.specs.Checks.{firstFault, hyperVerdict, afterGap, verdictFor}
 use Rattle.chain.specs.Hyperperiod.{hyperFrom}
 use Rattle.ranges.specs.Least.{leastFrom}
 use Rattle.timing.specs.WarmUp.{warmLast, warmAt, warmTick}
@@ -27,17 +27,17 @@ chainA = record { period = 4; duration = 4; phase = 0 } ∷ record { period = 6;
 abbrev pub wholeA : Made
 wholeA = Whole (record { anchors = 2; tick = record { 0 = 0 }; hyperperiod = 12; walked = 3 })
 
-pub made-of-a : madeOf (chainOfList chainA) 1 3 3 ≡ wholeA
-unfolding chainOfList padded judged madeAfter verdictFor firstFault hyperVerdict withinLimits hyperFrom lcmOf gcdOf euclid warmTick warmAt warmLast leastFrom backwardBy onLatest forwardBy forwardLink backwardLink latestBy earliestFrom rangeFrom keep fresh dropRepeats startOf endOf keeps anchorsFrom
+pub made-of-a : madeOf (chainOfList 0 chainA) 1 3 3 ≡ wholeA
+unfolding chainOfList padded judged madeAfter verdictFor afterGap firstFault hyperVerdict withinLimits hyperFrom lcmOf gcdOf euclid warmTick warmAt warmLast leastFrom backwardBy onLatest forwardBy forwardLink backwardLink latestOver earliestFrom rangeFrom keep fresh dropRepeats startOf endOf keeps anchorsFrom
 made-of-a = refl
 
 -- and the anchors (0, 18), (8, 16).
-pub anchors-of-a : writtenOf (chainOfList chainA) 1 3 3 ≡ record { start = 0; latency = 18 } ∷ record { start = 8; latency = 16 } ∷ []
-unfolding chainOfList padded judged writtenAfter verdictFor firstFault hyperVerdict withinLimits hyperFrom lcmOf gcdOf euclid warmAt warmLast leastFrom backwardBy onLatest forwardBy forwardLink backwardLink latestBy earliestFrom rangeFrom keep fresh dropRepeats startOf endOf keeps anchorsFrom
+pub anchors-of-a : writtenOf (chainOfList 0 chainA) 1 3 3 ≡ record { start = 0; latency = 18 } ∷ record { start = 8; latency = 16 } ∷ []
+unfolding chainOfList padded judged writtenAfter verdictFor afterGap firstFault hyperVerdict withinLimits hyperFrom lcmOf gcdOf euclid warmAt warmLast leastFrom backwardBy onLatest forwardBy forwardLink backwardLink latestOver earliestFrom rangeFrom keep fresh dropRepeats startOf endOf keeps anchorsFrom
 anchors-of-a = refl
 
 -- So making answers that, and leaves that in two lists of three entries each.
-pub leaves-of-a : (starts latencies : List ℕ) (r : Made) → Makes (chainOfList chainA) 1 (7 ∷ 7 ∷ 7 ∷ []) (9 ∷ 9 ∷ 9 ∷ []) starts latencies r
+pub leaves-of-a : (starts latencies : List ℕ) (r : Made) → Makes (chainOfList 0 chainA) 1 (7 ∷ 7 ∷ 7 ∷ []) (9 ∷ 9 ∷ 9 ∷ []) starts latencies r
     → (r ≡ wholeA) × (starts ≡ 0 ∷ 8 ∷ 7 ∷ []) × (latencies ≡ 18 ∷ 16 ∷ 9 ∷ [])
 leaves-of-a starts latencies r m = (
   m .answer ∙ made-of-a,

@@ -7,12 +7,12 @@ ghost use mathlib.Core.List.{[], _∷_};
 ghost use Rattle.maker.specs.Making.{told, Makes};
 ghost use Rattle.lent_chain.specs.LentList.{chainOfList};
 
-// Lends two tasks as a list.
+// Lends two tasks as a list, without a gap.
 fn made_of(a: Task, b: Task, p: usize, starts: &mut [u64], latencies: &mut [u64]) -> Made
-    ensures { λ r. ⌜ Makes (chainOfList (a ∷ b ∷ [])) p (now (starts .entry)) (now (latencies .entry)) (now (starts .exit)) (now (latencies .exit)) r ⌝ }
+    ensures { λ r. ⌜ Makes (chainOfList 0 (a ∷ b ∷ [])) p (now (starts .entry)) (now (latencies .entry)) (now (starts .exit)) (now (latencies .exit)) r ⌝ }
 {
     let tasks = [a, b];
-    lent_chain::make_table_of(&tasks, p, starts, latencies)
+    lent_chain::make_table_of(&tasks, 0, p, starts, latencies)
 }
 
 // The number of partitions walked; 0 in a refusal.

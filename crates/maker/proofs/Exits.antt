@@ -6,19 +6,20 @@ use mathlib.Core.Path.{_≡_, refl, sym, ap, _∙_}
 use mathlib.Core.Bool.{Bool, true, false, cond, _&&_}
 use mathlib.Core.List.{List, []}
 use lib.Dec.{leb, eqb}
-use lib.ListN.{length}
+use lib.ListN.{length, length-map}
 use borrow.Author.Tests.{le-leb, lt-leb, leb-true, eq-eqb, eqb-true, ne-eqb}
 use Rattle.refusal.specs.declared.Refusal.{Refusal}
 use Rattle.refusal.specs.Refusals.{refusal}
 use Rattle.task.specs.declared.Task.{Task}
+use Rattle.task.specs.declared.Place.{Place}
 use Rattle.task.specs.declared.Tick.{Tick}
-use Rattle.task.specs.Jobs.{writeOf}
+use Rattle.task.specs.Jobs.{placeOf, writeOf}
 use Rattle.chain.specs.declared.Chain.{Chain}
 use Rattle.chain.specs.declared.Verdict.{Verdict}
 use Rattle.chain.specs.declared.Verdict.the-variants as verdict
-use Rattle.chain.specs.Chains.{tasksOf, at}
+use Rattle.chain.specs.Chains.{placed, tasksOf, at}
 use Rattle.chain.specs.Checks.{verdictOf, verdictIn, Sound}
-use Rattle.chain.specs.Flat.{tasksIn, in-count}
+use Rattle.chain.specs.Flat.{givenIn, in-count}
 use Rattle.chain.specs.Hyperperiod.{hyperOf}
 use Rattle.chain.specs.Multiples.{some-jobs}
 use Rattle.chain.specs.StandsFor.{StandsFor}
@@ -57,21 +58,21 @@ after-same : (v : Verdict) (places p a b : ℕ) → afterChecks v places p a b �
 after-same (verdict.Refused r) places p a b = refl
 after-same (verdict.Accepted h) places p a b = refl
 
--- what the checks say of a list of tasks
-abbrev pub judgedIn : List Task → ℕ → ℕ → ℕ → Verdict
-judgedIn t p a b = afterChecks (verdictIn t) (length t) p a b
+-- what the checks say of a gap and a list of tasks
+abbrev pub judgedIn : ℕ → List Task → ℕ → ℕ → ℕ → Verdict
+judgedIn d t p a b = afterChecks (verdictIn d t) (length (placed d t)) p a b
 
 -- of a flat list, v being what the chain's own checks say
-pub judge-in : (list : List ℕ) (v : Verdict) → v ≡ verdictIn (tasksIn list) → (p a b : ℕ) → afterChecks v (length list / 3) p a b ≡ judgedIn (tasksIn list) p a b
-judge-in list v e p a b = rw (e, in-count list)
+pub judge-in : (d : ℕ) (list : List ℕ) (v : Verdict) → v ≡ verdictIn d (givenIn list) → (p a b : ℕ) → afterChecks v (length list / 3) p a b ≡ judgedIn d (givenIn list) p a b
+judge-in d list v e p a b = rw (e, in-count d list)
 
 -- they say it of the chain that the list stands for
-judged-stands : (t : List Task) (c : Chain) → StandsFor t c → (p a b : ℕ) → judgedIn t p a b ≡ judged c p a b
+judged-stands : (d : ℕ) (t : List Task) (c : Chain) → StandsFor d t c → (p a b : ℕ) → judgedIn d t p a b ≡ judged c p a b
 unfolding judged
-judged-stands t c st p a b = ap (λ (v : Verdict). afterChecks v (length t) p a b) (st .verdict) ∙ go (verdictOf c) refl
+judged-stands d t c st p a b = ap (λ (v : Verdict). afterChecks v (length (placed d t)) p a b) (st .verdict) ∙ go (verdictOf c) refl
   where
-    go : (v : Verdict) → verdictOf c ≡ v → afterChecks v (length t) p a b ≡ afterChecks v (c .places) p a b
-    go (verdict.Accepted h) e = ap (λ (n : ℕ). afterChecks (verdict.Accepted h) n p a b) (st .places h e)
+    go : (v : Verdict) → verdictOf c ≡ v → afterChecks v (length (placed d t)) p a b ≡ afterChecks v (c .places) p a b
+    go (verdict.Accepted h) e = ap (λ (n : ℕ). afterChecks (verdict.Accepted h) n p a b) (length-map t (placeOf d) ∙ st .places h e)
     go (verdict.Refused r) e = refl
 
 -- what is known of a making that is accepted, v being what the chain's own checks say and n the number of places
@@ -93,17 +94,17 @@ well v n p a b h r = go v (leb 1 p) (leb p n) (eqb a b) refl refl refl refl (sym
     go (verdict.Refused f) x y z e l t m q = absurd (let u : _≡_ {A = ℕ} 0 1 = cc in omega arith)
 
 -- the whole range of partitions stays small
-pub range-fits : (l : List Task) → Sound l → (p h : ℕ) → p < length l → h ≤ 60000000 → writeOf (at l p) (warmAt l p + h / at l p .period + 1) ≤ 1000000000000
+pub range-fits : (l : List Place) → Sound l → (p h : ℕ) → p < length l → h ≤ 60000000 → writeOf (at l p) (warmAt l p + h / at l p .period + 1) ≤ 1000000000000
 range-fits l ok p h g s =
     let w = ok .each p g in
     omega (arith, warm-range l ok p g, div-mul-le-self h (at l p .period), w .period-max, w .duration-max)
 
-pub warm-tick-small : (l : List Task) → Sound l → warmTick l ≤ 60000000
+pub warm-tick-small : (l : List Place) → Sound l → warmTick l ≤ 60011000
 unfolding warmTick
 warm-tick-small l ok = warm-range l ok 0 (ok .some)
 
 -- and `fill` has what it needs: the start after the range is a hyperperiod after the warm-up tick
-pub range-fills : (l : List Task) (h places p m n after : ℕ) → FactsIn l h → places ≡ length l → p < length l → m ≡ warmAt l p → n ≡ h / at l p .period → after ≡ warmTick l + h → Fills l places p m n after
+pub range-fills : (l : List Place) (h places p m n after : ℕ) → FactsIn l h → places ≡ length l → p < length l → m ≡ warmAt l p → n ≡ h / at l p .period → after ≡ warmTick l + h → Fills l places p m n after
 range-fills l h places p m n after f pl g w u a = rw (w, u, a) record {
   sound = f .sound;
   places-are = pl;
@@ -137,7 +138,7 @@ module _ (c : Chain) (p : ℕ) (s l : List ℕ) where
   refused r e = finish (verdict.Refused r) (Refused r) s l e refl (sets-overlay [] s) (sets-overlay [] l)
 
   -- t holds the tasks at the chain's places
-  module _ (h m n : ℕ) (x : Tick) (s′ l′ : List ℕ) (f : Count) (e : judged c p (length s) (length l) ≡ verdict.Accepted h) (t : List Task) (same : t ≡ tasksOf c) (w : m ≡ warmAt t (p - 1)) (k : x .0 ≡ warmTick t)
+  module _ (h m n : ℕ) (x : Tick) (s′ l′ : List ℕ) (f : Count) (e : judged c p (length s) (length l) ≡ verdict.Accepted h) (t : List Place) (same : t ≡ tasksOf c) (w : m ≡ warmAt t (p - 1)) (k : x .0 ≡ warmTick t)
       (u : n ≡ h / at t (p - 1) .period) (all : Filled t (p - 1) m n s l s′ l′ f) where
     filled : Filled (tasksOf c) (p - 1) (warmAt (tasksOf c) (p - 1)) (h / at (tasksOf c) (p - 1) .period) s l s′ l′ f
     filled = rw (w, u, same) at all
@@ -161,21 +162,21 @@ module _ (c : Chain) (p : ℕ) (s l : List ℕ) where
     short g =
         finish (verdict.Accepted h) _ s′ l′ e (rw (lt-leb (length (anchorsOf (tasksOf c) (p - 1) h)) (length s) (omega (arith, filled .anchors))) (ap Short figures)) (filled .first) (filled .second)
 
--- the same for every chain that a list of tasks stands for
-module _ (t : List Task) (p : ℕ) (s l : List ℕ) where
-  pub made-refused : (r : Refusal) → judgedIn t p (length s) (length l) ≡ verdict.Refused r → MakesFor t p s l s l (Refused r)
-  made-refused r e c st = refused c p s l r (sym (judged-stands t c st p (length s) (length l)) ∙ e)
+-- the same for every chain that a gap and a list of tasks stand for
+module _ (d : ℕ) (t : List Task) (p : ℕ) (s l : List ℕ) where
+  pub made-refused : (r : Refusal) → judgedIn d t p (length s) (length l) ≡ verdict.Refused r → MakesFor d t p s l s l (Refused r)
+  made-refused r e c st = refused c p s l r (sym (judged-stands d t c st p (length s) (length l)) ∙ e)
 
-  module _ (h m n : ℕ) (x : Tick) (s′ l′ : List ℕ) (f : Count) (e : judgedIn t p (length s) (length l) ≡ verdict.Accepted h) (w : m ≡ warmAt t (p - 1)) (k : x .0 ≡ warmTick t)
-      (u : n ≡ h / at t (p - 1) .period) (all : Filled t (p - 1) m n s l s′ l′ f) where
-    so : (c : Chain) → StandsFor t c → judged c p (length s) (length l) ≡ verdict.Accepted h
-    so c st = sym (judged-stands t c st p (length s) (length l)) ∙ e
+  module _ (h m n : ℕ) (x : Tick) (s′ l′ : List ℕ) (f : Count) (e : judgedIn d t p (length s) (length l) ≡ verdict.Accepted h) (w : m ≡ warmAt (placed d t) (p - 1)) (k : x .0 ≡ warmTick (placed d t))
+      (u : n ≡ h / at (placed d t) (p - 1) .period) (all : Filled (placed d t) (p - 1) m n s l s′ l′ f) where
+    so : (c : Chain) → StandsFor d t c → judged c p (length s) (length l) ≡ verdict.Accepted h
+    so c st = sym (judged-stands d t c st p (length s) (length l)) ∙ e
 
-    same : (c : Chain) → StandsFor t c → t ≡ tasksOf c
-    same c st = st .tasks h (sym (st .verdict) ∙ well (verdictIn t) (length t) p (length s) (length l) h e .whole)
+    same : (c : Chain) → StandsFor d t c → placed d t ≡ tasksOf c
+    same c st = st .tasks h (sym (st .verdict) ∙ well (verdictIn d t) (length (placed d t)) p (length s) (length l) h e .whole)
 
-    pub made-whole : f .anchors ≤ length s → MakesFor t p s l s′ l′ (Whole (record { anchors = f .anchors; tick = x; hyperperiod = h; walked = f .walked }))
-    made-whole g c st = whole c p s l h m n x s′ l′ f (so c st) t (same c st) w k u all g
+    pub made-whole : f .anchors ≤ length s → MakesFor d t p s l s′ l′ (Whole (record { anchors = f .anchors; tick = x; hyperperiod = h; walked = f .walked }))
+    made-whole g c st = whole c p s l h m n x s′ l′ f (so c st) (placed d t) (same c st) w k u all g
 
-    pub made-short : length s < f .anchors → MakesFor t p s l s′ l′ (Short (record { anchors = f .anchors; tick = x; hyperperiod = h; walked = f .walked }))
-    made-short g c st = short c p s l h m n x s′ l′ f (so c st) t (same c st) w k u all g
+    pub made-short : length s < f .anchors → MakesFor d t p s l s′ l′ (Short (record { anchors = f .anchors; tick = x; hyperperiod = h; walked = f .walked }))
+    made-short g c st = short c p s l h m n x s′ l′ f (so c st) (placed d t) (same c st) w k u all g

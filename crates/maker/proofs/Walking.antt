@@ -4,7 +4,7 @@ use native.Mathlib.Omega.{arith}
 use mathlib.Core.Path.{_≡_, refl, ap, _∙_}
 use mathlib.Core.List.{List, []}
 use lib.ListN.{length}
-use Rattle.task.specs.declared.Task.{Task}
+use Rattle.task.specs.declared.Place.{Place}
 use Rattle.task.specs.LinkLaws.{read-mono}
 use Rattle.chain.specs.Chains.{at}
 use Rattle.timing.specs.WarmUp.{warmAt}
@@ -21,7 +21,7 @@ use Rattle.maker.specs.Turn.{lastEnd, Added, Filled, Fills, Begins, Walk
 use Rattle.maker.proofs.Turn.{Going, going-start, going-turn, going-end, added-few}
 
 -- x is the partition that comes walked − 1 after the first; g anchors were found before it, and last is the end of the kept one before it
-pub record Walking (t : List Task) (p n m : ℕ) (s₀ l₀ state s l : List ℕ) (walked g last : ℕ) (x : Partition) : Type 0 where
+pub record Walking (t : List Place) (p n m : ℕ) (s₀ l₀ state s l : List ℕ) (walked g last : ℕ) (x : Partition) : Type 0 where
   pub job : x .job .0 + 1 ≡ m + walked
   pub low : 1 ≤ walked
   pub high : walked ≤ n
@@ -30,7 +30,7 @@ pub record Walking (t : List Task) (p n m : ℕ) (s₀ l₀ state s l : List ℕ
   pub stands : Standing t p (x .job .0) state
   pub going : Going t p m n s₀ l₀ (x .job .0) (n + 1 - walked) last g s l
 
-module _ (t : List Task) (places p n : ℕ) (first : Partition) (after : ℕ) (state₀ : List ℕ) (b : Begins t places p n first after state₀) (s₀ l₀ : List ℕ) where
+module _ (t : List Place) (places p n : ℕ) (first : Partition) (after : ℕ) (state₀ : List ℕ) (b : Begins t places p n first after state₀) (s₀ l₀ : List ℕ) where
   pub walking-start : Walking t p n (first .job .0) s₀ l₀ state₀ s₀ l₀ 1 0 0 first
   walking-start = record {
     job = refl;
@@ -101,7 +101,7 @@ module _ (t : List Task) (places p n : ℕ) (first : Partition) (after : ℕ) (s
 
 -- ---- what `fill` needs and hands on
 
-module _ (t : List Task) (places p m n after : ℕ) (f : Fills t places p m n after) where
+module _ (t : List Place) (places p m n after : ℕ) (f : Fills t places p m n after) where
   pub fill-cut : (Cut t p m) × (places ≡ length t) × (2 * places ≤ 24)
   fill-cut = (
     record { sound = f .sound; inside = omega (arith, f .inside, f .places-are); warm = f .warm; top = omega (arith, f .top, read-mono (at t p) (m + 1) (m + n + 1) (omega arith)) },

@@ -6,7 +6,7 @@ use mathlib.Core.List.{List, [], _∷_}
 use lib.Dec.{eqb}
 use lib.ListN.{length}
 use lib.Seq.{sets}
-use Rattle.task.specs.declared.Task.{Task}
+use Rattle.task.specs.declared.Place.{Place}
 use Rattle.task.specs.Jobs.{writeOf}
 use Rattle.chain.specs.Chains.{at}
 use Rattle.chain.specs.Checks.{Sound}
@@ -46,7 +46,7 @@ pub record Added (x : Partition) (y q g : ℕ) (s l s′ l′ : List ℕ) (r : �
   pub second : l′ ≡ sets l g (latenciesOf (added x y q))
 
 -- The n partitions from m on, from the warm-up job on and at most a whole range of them, and the start of the one after them; no tick is large.
-pub record Fills (t : List Task) (places p m n after : ℕ) : Type 0 where
+pub record Fills (t : List Place) (places p m n after : ℕ) : Type 0 where
   pub sound : Sound t
   pub places-are : places ≡ length t
   pub inside : p < places
@@ -58,19 +58,19 @@ pub record Fills (t : List Task) (places p m n after : ℕ) : Type 0 where
   pub later : after ≡ startOf t p (m + n)
 
 -- What the loop over the n partitions from m on leaves.
-pub record Filled (t : List Task) (p m n : ℕ) (s l s′ l′ : List ℕ) (r : Count) : Type 0 where
+pub record Filled (t : List Place) (p m n : ℕ) (s l s′ l′ : List ℕ) (r : Count) : Type 0 where
   pub anchors : r .anchors ≡ length (anchorsFrom t p m n)
   pub walked : r .walked ≡ length (rangeFrom m n)
   pub first : s′ ≡ overlay (startsOf (anchorsFrom t p m n)) s
   pub second : l′ ≡ overlay (latenciesOf (anchorsFrom t p m n)) l
 
 -- What the walk over the n partitions from x on begins with: their first one, the start of the one after them, and the state.
-pub record Begins (t : List Task) (places p n : ℕ) (x : Partition) (after : ℕ) (state : List ℕ) : Type 0 where
+pub record Begins (t : List Place) (places p n : ℕ) (x : Partition) (after : ℕ) (state : List ℕ) : Type 0 where
   pub fills : Fills t places p (x .job .0) n after
   pub is : IsPartition t p (x .job .0) x
   pub stands : Standing t p (x .job .0) state
 
 -- What the walk leaves of the state: it stands n − 1 steps on, and no place's job gained more than H / T on the way (order 4 of document 02).
-pub record Walked (t : List Task) (p m n : ℕ) (old new : List ℕ) : Type 0 where
+pub record Walked (t : List Place) (p m n : ℕ) (old new : List ℕ) : Type 0 where
   pub stands : Standing t p (m + (n - 1)) new
   pub gains : (i : ℕ) → i < length t → jobAt new i ≤ jobAt old i + hyperOf t / at t i .period

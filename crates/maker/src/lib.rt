@@ -1,16 +1,16 @@
 // Making a table of anchors: one pass over the partitions of a hyperperiod, which writes the anchors into two lent lists.
-// `make_table` takes any chain, any place and any two lists; `make_table_on` any flat list of tasks.
+// `make_table` takes any chain, any place and any two lists; `make_table_on` any flat list of tasks and any gap.
 use chain::Chain;
 use chain::Verdict;
 use partition::Partition;
 use refusal::Refusal;
 use task::Job;
-use task::Task;
+use task::Place;
 use task::Tick;
 ghost use mathlib.Core.Path.{_≡_};
 ghost use lib.ListN.{set};
 ghost use Prim.Native.Nat.{_≤_};
-ghost use Rattle.chain.specs.Flat.{tasksIn};
+ghost use Rattle.chain.specs.Flat.{givenIn, tasksIn};
 ghost use Rattle.stepping.specs.Standing.{Reciprocals};
 ghost use Rattle.maker.specs.Turn.{lastEnd, Added, Filled, Fills, Begins, Walked};
 ghost use Rattle.maker.specs.Making.{afterChecks, Makes, MakesFor};
@@ -84,6 +84,7 @@ fn last_end(here: Partition, after: Tick, last: Tick) -> Tick
 // Walks the n partitions from `first` on, n - 1 steps, and writes the anchors that fit. Of the partition after them only the start counts, `after`, so no step is taken to it.
 fn walk(
     tasks: &[u64],
+    gap: u64,
     places: usize,
     p: usize,
     n: u64,
@@ -94,15 +95,15 @@ fn walk(
     starts: &mut [u64],
     latencies: &mut [u64],
 ) -> Count
-    requires { ⌜ (Begins (tasksIn (now tasks)) places p n first (after .0) (now state)) × Reciprocals (tasksIn (now tasks)) (now reciprocals) ⌝ }
-    ensures { λ r. ⌜ (Filled (tasksIn (now (tasks .entry))) p (first .job .0) n (now (starts .entry)) (now (latencies .entry)) (now (starts .exit)) (now (latencies .exit)) r) × Walked (tasksIn (now (tasks .entry))) p (first .job .0) n (now (state .entry)) (now (state .exit)) ⌝ }
+    requires { ⌜ (Begins (tasksIn gap (now tasks)) places p n first (after .0) (now state)) × Reciprocals (tasksIn gap (now tasks)) (now reciprocals) ⌝ }
+    ensures { λ r. ⌜ (Filled (tasksIn gap (now (tasks .entry))) p (first .job .0) n (now (starts .entry)) (now (latencies .entry)) (now (starts .exit)) (now (latencies .exit)) r) × Walked (tasksIn gap (now (tasks .entry))) p (first .job .0) n (now (state .entry)) (now (state .exit)) ⌝ }
 {
     let mut walked: u64 = 1;
     let mut g: usize = 0;
     let mut last = Tick(0);
     let mut here = first;
     while walked < n {
-        let next = stepping::next(tasks, places, p, reciprocals, state);
+        let next = stepping::next(tasks, gap, places, p, reciprocals, state);
         let start = next.start;
         g = add_anchor(here, start, last, g, starts, latencies);
         last = last_end(here, start, last);
@@ -116,6 +117,7 @@ fn walk(
 // The same, with what stands for the divisions of the steps made first.
 fn walk_by_steps(
     tasks: &[u64],
+    gap: u64,
     places: usize,
     p: usize,
     n: u64,
@@ -125,13 +127,14 @@ fn walk_by_steps(
     starts: &mut [u64],
     latencies: &mut [u64],
 ) -> Count
-    requires { ⌜ Begins (tasksIn (now tasks)) places p n first (after .0) (now state) ⌝ }
-    ensures { λ r. ⌜ (Filled (tasksIn (now (tasks .entry))) p (first .job .0) n (now (starts .entry)) (now (latencies .entry)) (now (starts .exit)) (now (latencies .exit)) r) × Walked (tasksIn (now (tasks .entry))) p (first .job .0) n (now (state .entry)) (now (state .exit)) ⌝ }
+    requires { ⌜ Begins (tasksIn gap (now tasks)) places p n first (after .0) (now state) ⌝ }
+    ensures { λ r. ⌜ (Filled (tasksIn gap (now (tasks .entry))) p (first .job .0) n (now (starts .entry)) (now (latencies .entry)) (now (starts .exit)) (now (latencies .exit)) r) × Walked (tasksIn gap (now (tasks .entry))) p (first .job .0) n (now (state .entry)) (now (state .exit)) ⌝ }
 {
     let mut reciprocals = [0u64; 36];
-    outset::reciprocals_of(tasks, places, &mut reciprocals);
+    outset::reciprocals_of(tasks, gap, places, &mut reciprocals);
     walk(
         tasks,
+        gap,
         places,
         p,
         n,
@@ -147,6 +150,7 @@ fn walk_by_steps(
 // Walks the n partitions from a job on, and writes the anchors that fit; a single one, as every harmonic chain has at its longest period, needs no step. `tasks` is the flat list of the chain's tasks, which is not copied; `after` is the start of the partition after the last one.
 fn fill(
     tasks: &[u64],
+    gap: u64,
     places: usize,
     p: usize,
     from: Job,
@@ -155,11 +159,11 @@ fn fill(
     starts: &mut [u64],
     latencies: &mut [u64],
 ) -> Count
-    requires { ⌜ Fills (tasksIn (now tasks)) places p (from .0) n (after .0) ⌝ }
-    ensures { λ r. ⌜ Filled (tasksIn (now (tasks .entry))) p (from .0) n (now (starts .entry)) (now (latencies .entry)) (now (starts .exit)) (now (latencies .exit)) r ⌝ }
+    requires { ⌜ Fills (tasksIn gap (now tasks)) places p (from .0) n (after .0) ⌝ }
+    ensures { λ r. ⌜ Filled (tasksIn gap (now (tasks .entry))) p (from .0) n (now (starts .entry)) (now (latencies .entry)) (now (starts .exit)) (now (latencies .exit)) r ⌝ }
 {
     let mut state = [0u64; 24];
-    let first = outset::first(tasks, places, p, from, &mut state);
+    let first = outset::first(tasks, gap, places, p, from, &mut state);
     if n < 2 {
         let g = add_anchor(first, after, Tick(0), 0, starts, latencies);
         return Count {
@@ -169,6 +173,7 @@ fn fill(
     }
     walk_by_steps(
         tasks,
+        gap,
         places,
         p,
         n,
@@ -212,28 +217,35 @@ fn judge(v: Verdict, places: usize, p: usize, a: usize, b: usize) -> Verdict
     }
 }
 
-// Making on a flat list of tasks, one for each place, which is lent and not copied.
-pub fn make_table_on(tasks: &[u64], p: usize, starts: &mut [u64], latencies: &mut [u64]) -> Made
-    ensures { λ r. ⌜ MakesFor (tasksIn (now (tasks .entry))) p (now (starts .entry)) (now (latencies .entry)) (now (starts .exit)) (now (latencies .exit)) r ⌝ }
+// Making on a flat list of tasks, one for each place, which is lent and not copied, with the gap of their links.
+pub fn make_table_on(
+    tasks: &[u64],
+    gap: u64,
+    p: usize,
+    starts: &mut [u64],
+    latencies: &mut [u64],
+) -> Made
+    ensures { λ r. ⌜ MakesFor gap (givenIn (now (tasks .entry))) p (now (starts .entry)) (now (latencies .entry)) (now (starts .exit)) (now (latencies .exit)) r ⌝ }
 {
     let a = starts.len();
     let places = tasks.len() / 3;
-    let v = judge(chain::check_on(tasks), places, p, a, latencies.len());
+    let v = judge(chain::check_on(tasks, gap), places, p, a, latencies.len());
     match v {
         Verdict::Refused(r) => {
             return Made::Refused(r);
         }
         Verdict::Accepted(h) => {
             let q = p - 1;
-            let jobs = timing::warm_jobs(tasks);
+            let jobs = timing::warm_jobs(tasks, gap);
             let from = jobs[q];
             let w = jobs[0];
-            let first = chain::task_at(tasks, 0);
+            let first = chain::task_at(tasks, gap, 0);
             let tick = first.read(w);
-            let t = chain::task_at(tasks, q);
+            let t = chain::task_at(tasks, gap, q);
             let after = Tick(tick.0 + h);
             let f = fill(
                 tasks,
+                gap,
                 places,
                 q,
                 from,
@@ -262,5 +274,5 @@ pub fn make_table(c: Chain, p: usize, starts: &mut [u64], latencies: &mut [u64])
 {
     let tasks = chain::flat(c);
     let n = chain::flat_length(c.places);
-    make_table_on(&tasks[..n], p, starts, latencies)
+    make_table_on(&tasks[..n], c.gap, p, starts, latencies)
 }

@@ -8,7 +8,7 @@ use mathlib.Core.Logic.{_≢_}
 use mathlib.Core.List.{List}
 use lib.ListN.{length, getD, set, length-set}
 use lib.Seq.{getD-set-same, getD-set-other}
-use Rattle.task.specs.declared.Task.{Task}
+use Rattle.task.specs.declared.Place.{Place}
 use Rattle.chain.specs.Chains.{at}
 use Rattle.stepping.specs.Reciprocal.{Reciprocal}
 use Rattle.stepping.specs.OnePlace.{factorAt, shiftAt, jobAt, restAt, stored-other, stored-job, stored-rest}
@@ -73,7 +73,7 @@ module _ (s : List ℕ) (i t f h : ℕ) (room : 3 * i + 3 ≤ length s) where
       }
 
 -- a place more
-pub given-more : (l : List Task) (i : ℕ) (old new : List ℕ) → GivenTo l i old → Given i (at l i .period) old new → GivenTo l (i + 1) new
+pub given-more : (l : List Place) (i : ℕ) (old new : List ℕ) → GivenTo l i old → Given i (at l i .period) old new → GivenTo l (i + 1) new
 given-more l i old new to gv = record {
   period = λ x u. elim (decLt x i) [ yes k ↦ gv .low (3 * x) (omega arith) ∙ to .period x k | no k ↦ let e : x ≡ i = omega arith in rw e (gv .period) ];
   each = λ x u. elim (decLt x i) [
@@ -84,7 +84,7 @@ given-more l i old new to gv = record {
 
 -- ---- state
 
-module _ (l : List Task) (p m : ℕ) (old new : List ℕ) where
+module _ (l : List Place) (p m : ℕ) (old new : List ℕ) where
   module _ (i z t r : ℕ) (pt : Put i z t old new r) where
     stay : (x : ℕ) → x ≢ 2 * i → x ≢ 2 * i + 1 → getD new x 0 ≡ getD old x 0
     stay = stored-other old new i (z / t) (z % t) (pt .stored)

@@ -3,7 +3,7 @@ use Prim.Native.Nat.{ℕ, _+_, _*_, _/_, _%_, _≤_, _<_}
 use mathlib.Core.Path.{_≡_}
 use mathlib.Core.List.{List}
 use lib.ListN.{length, getD}
-use Rattle.task.specs.declared.Task.{Task}
+use Rattle.task.specs.declared.Place.{Place}
 use Rattle.task.specs.Jobs.{writeOf}
 use Rattle.chain.specs.Chains.{at}
 use Rattle.chain.specs.Checks.{Sound}
@@ -28,18 +28,18 @@ pub record Put (i z t : ℕ) (old new : List ℕ) (r : ℕ) : Type 0 where
   pub stored : new ≡ storedAt old i (z / t) (z % t)
 
 -- Job m of the cut, from the warm-up job on, with no large tick.
-pub record Cut (l : List Task) (p m : ℕ) : Type 0 where
+pub record Cut (l : List Place) (p m : ℕ) : Type 0 where
   pub sound : Sound l
   pub inside : p < length l
   pub warm : warmAt l p ≤ m
   pub top : writeOf (at l p) (m + 1) ≤ 1000000000000
 
 -- The state at job m of the cut, and that job's partition.
-pub record First (l : List Task) (p m : ℕ) (new : List ℕ) (x : Partition) : Type 0 where
+pub record First (l : List Place) (p m : ℕ) (new : List ℕ) (x : Partition) : Type 0 where
   pub stands : Standing l p m new
   pub partition : IsPartition l p m x
 
 -- What a loop over the places leaves of the state: its length, and the entries of the places from a to b − 1.
-pub record States (l : List Task) (p m a b : ℕ) (old new : List ℕ) : Type 0 where
+pub record States (l : List Place) (p m a b : ℕ) (old new : List ℕ) : Type 0 where
   pub long : length new ≡ length old
   pub from : StandsFrom l p m a b new

@@ -1,7 +1,7 @@
 // What the step needs before its first turn, by division, once for each making: what stands for a division at each place, and the state at a job of the cut.
 use partition::Partition;
 use task::Job;
-use task::Task;
+use task::Place;
 use task::Tick;
 ghost use mathlib.Core.Path.{_≡_};
 ghost use lib.ListN.{length};
@@ -48,13 +48,13 @@ fn give(reciprocals: &mut [u64], i: usize, t: u64)
 }
 
 // The numbers of every place.
-pub fn reciprocals_of(tasks: &[u64], n: usize, reciprocals: &mut [u64])
-    requires { ⌜ (Sound (tasksIn (now tasks))) × (n ≡ length (tasksIn (now tasks))) × (3 * n ≤ length (now reciprocals)) ⌝ }
-    ensures { λ r. ⌜ Reciprocals (tasksIn (now (tasks .entry))) (now (reciprocals .exit)) ⌝ }
+pub fn reciprocals_of(tasks: &[u64], gap: u64, n: usize, reciprocals: &mut [u64])
+    requires { ⌜ (Sound (tasksIn gap (now tasks))) × (n ≡ length (tasksIn gap (now tasks))) × (3 * n ≤ length (now reciprocals)) ⌝ }
+    ensures { λ r. ⌜ Reciprocals (tasksIn gap (now (tasks .entry))) (now (reciprocals .exit)) ⌝ }
 {
     let mut i: usize = 0;
     while i < n {
-        let a = chain::task_at(tasks, i);
+        let a = chain::task_at(tasks, gap, i);
         give(reciprocals, i, a.period);
         i += 1;
     }
@@ -73,48 +73,48 @@ fn put(state: &mut [u64], i: usize, z: u64, t: u64) -> u64
 }
 
 // The state of the places before the cut, on the way back from job m.
-fn first_back(tasks: &[u64], p: usize, m: Job, state: &mut [u64])
-    requires { ⌜ (Cut (tasksIn (now tasks)) p (m .0)) × (2 * (p + 1) ≤ length (now state)) × (StandsFrom (tasksIn (now tasks)) p (m .0) p (p + 1) (now state)) ⌝ }
-    ensures { λ r. ⌜ States (tasksIn (now (tasks .entry))) p (m .0) 0 (p + 1) (now (state .entry)) (now (state .exit)) ⌝ }
+fn first_back(tasks: &[u64], gap: u64, p: usize, m: Job, state: &mut [u64])
+    requires { ⌜ (Cut (tasksIn gap (now tasks)) p (m .0)) × (2 * (p + 1) ≤ length (now state)) × (StandsFrom (tasksIn gap (now tasks)) p (m .0) p (p + 1) (now state)) ⌝ }
+    ensures { λ r. ⌜ States (tasksIn gap (now (tasks .entry))) p (m .0) 0 (p + 1) (now (state .entry)) (now (state .exit)) ⌝ }
 {
     let mut i = p;
     let mut j = m;
-    let mut b = chain::task_at(tasks, p);
+    let mut b = chain::task_at(tasks, gap, p);
     while 0 < i {
         i -= 1;
-        let a = chain::task_at(tasks, i);
+        let a = chain::task_at(tasks, gap, i);
         let t = b.read(j);
-        j = Job(put(state, i, t.0 - a.phase - a.duration, a.period));
+        j = Job(put(state, i, t.0 - a.phase - a.duration - a.gap, a.period));
         b = a;
     }
 }
 
 // The state of the places after the cut, on the way on from job m + 1.
-fn first_on(tasks: &[u64], n: usize, p: usize, m: Job, state: &mut [u64])
-    requires { ⌜ (Cut (tasksIn (now tasks)) p (m .0)) × (n ≡ length (tasksIn (now tasks))) × (2 * n ≤ length (now state)) × (StandsFrom (tasksIn (now tasks)) p (m .0) 0 (p + 1) (now state)) ⌝ }
-    ensures { λ r. ⌜ States (tasksIn (now (tasks .entry))) p (m .0) 0 n (now (state .entry)) (now (state .exit)) ⌝ }
+fn first_on(tasks: &[u64], gap: u64, n: usize, p: usize, m: Job, state: &mut [u64])
+    requires { ⌜ (Cut (tasksIn gap (now tasks)) p (m .0)) × (n ≡ length (tasksIn gap (now tasks))) × (2 * n ≤ length (now state)) × (StandsFrom (tasksIn gap (now tasks)) p (m .0) 0 (p + 1) (now state)) ⌝ }
+    ensures { λ r. ⌜ States (tasksIn gap (now (tasks .entry))) p (m .0) 0 n (now (state .entry)) (now (state .exit)) ⌝ }
 {
     let last = n - 1;
     let mut c = p;
     let k = m.0;
     let mut j = Job(k + 1);
-    let mut a = chain::task_at(tasks, p);
+    let mut a = chain::task_at(tasks, gap, p);
     while c < last {
         c += 1;
-        let b = chain::task_at(tasks, c);
-        let w = a.write(j);
+        let b = chain::task_at(tasks, gap, c);
+        let w = a.readable(j);
         j = Job(put(state, c, w.0 - b.phase + (b.period - 1), b.period));
         a = b;
     }
 }
 
 // The state at job m of place p, and that job's partition.
-pub fn first(tasks: &[u64], n: usize, p: usize, m: Job, state: &mut [u64]) -> Partition
-    requires { ⌜ (Cut (tasksIn (now tasks)) p (m .0)) × (n ≡ length (tasksIn (now tasks))) × (2 * n ≤ length (now state)) ⌝ }
-    ensures { λ r. ⌜ First (tasksIn (now (tasks .entry))) p (m .0) (now (state .exit)) r ⌝ }
+pub fn first(tasks: &[u64], gap: u64, n: usize, p: usize, m: Job, state: &mut [u64]) -> Partition
+    requires { ⌜ (Cut (tasksIn gap (now tasks)) p (m .0)) × (n ≡ length (tasksIn gap (now tasks))) × (2 * n ≤ length (now state)) ⌝ }
+    ensures { λ r. ⌜ First (tasksIn gap (now (tasks .entry))) p (m .0) (now (state .exit)) r ⌝ }
 {
     state[2 * p] = m.0;
-    first_back(tasks, p, m, state);
-    first_on(tasks, n, p, m, state);
-    stepping::here(tasks, n, p, state)
+    first_back(tasks, gap, p, m, state);
+    first_on(tasks, gap, n, p, m, state);
+    stepping::here(tasks, gap, n, p, state)
 }

@@ -4,10 +4,10 @@ use native.Mathlib.Omega.{arith}
 use mathlib.Core.Path.{_≡_, refl, sym, ap, _∙_}
 use mathlib.Core.List.{List}
 use lib.ListN.{length}
-use Rattle.task.specs.declared.Task.{Task}
+use Rattle.task.specs.declared.Place.{Place}
 use Rattle.task.specs.declared.Latest.{Latest}
 use Rattle.task.specs.declared.Latest.the-variants.{Of, Nothing}
-use Rattle.task.specs.Jobs.{readOf, writeOf, Within}
+use Rattle.task.specs.Jobs.{readOf, writeOf, Limited}
 use Rattle.task.specs.LinkLaws.{job-small, read-mono}
 use Rattle.chain.specs.Chains.{at, lastPlace, backwardBy, jobOf}
 use Rattle.chain.specs.Checks.{Sound}
@@ -17,8 +17,8 @@ use Rattle.timing.specs.WarmLaws.{start-there}
 use Rattle.partition.specs.declared.Partition.{Partition}
 use Rattle.partition.specs.Partitions.{startOf, endOf, IsPartition}
 
-module _ (l : List Task) (ok : Sound l) (p : ℕ) (h : p < length l) where
-  here : Within (at l p)
+module _ (l : List Place) (ok : Sound l) (p : ℕ) (h : p < length l) where
+  here : Limited (at l p)
   here = ok .each p h
 
   -- whether there is a job back there or not, its read is not far
@@ -44,7 +44,7 @@ module _ (l : List Task) (ok : Sound l) (p : ℕ) (h : p < length l) where
   unfolding endOf
   end-late m = forward-late l ok p (lastPlace l) (omega arith) (omega arith) (m + 1)
 
-  pub end-near : (m : ℕ) → endOf l p m ≤ writeOf (at l p) (m + 1) + 55000000
+  pub end-near : (m : ℕ) → endOf l p m ≤ writeOf (at l p) (m + 1) + 55011000
   unfolding endOf
   end-near m = forward-fits l ok p (lastPlace l) (omega arith) (omega arith) (m + 1)
 
@@ -61,5 +61,5 @@ module _ (l : List Task) (ok : Sound l) (p : ℕ) (h : p < length l) where
   job-fits m = omega (arith, job-small (at l p) (here .period-pos) m)
 
 -- a partition is that of its own job
-pub own : (l : List Task) (p m : ℕ) (x : Partition) → IsPartition l p m x → IsPartition l p (x .job .0) x
+pub own : (l : List Place) (p m : ℕ) (x : Partition) → IsPartition l p m x → IsPartition l p (x .job .0) x
 own l p m x i = record { of = refl; starts = i .starts ∙ ap (startOf l p) (sym (i .of)); ends = i .ends ∙ ap (endOf l p) (sym (i .of)) }

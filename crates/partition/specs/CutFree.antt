@@ -9,7 +9,7 @@ use mathlib.Core.Logic.{_≢_}
 use mathlib.Core.Bool.{Bool}
 use mathlib.Core.List.{List, map}
 use lib.ListN.{length}
-use Rattle.task.specs.declared.Task.{Task}
+use Rattle.task.specs.declared.Place.{Place}
 use Rattle.task.specs.declared.Latest.{Latest}
 use Rattle.task.specs.declared.Latest.the-variants.{Of, Nothing}
 use Rattle.task.specs.Jobs.{readOf, writeOf}
@@ -33,18 +33,18 @@ count-job (Of i) = omega arith
 count-job Nothing = refl
 
 -- the write at the end of the way on from job m at place p
-abbrev pub endFrom : List Task → ℕ → ℕ → ℕ
+abbrev pub endFrom : List Place → ℕ → ℕ → ℕ
 endFrom l p m = writeOf (at l (lastPlace l)) (forwardBy l p (lastPlace l - p) m)
 
 -- the write at the end of the whole way from job j of the first place
-abbrev pub endWalk : List Task → ℕ → ℕ
+abbrev pub endWalk : List Place → ℕ → ℕ
 endWalk l j = writeOf (at l (lastPlace l)) (walk l j)
 
 -- the anchors by the first place's jobs: those that end later than the job before does, one hyperperiod of them from W1 on
-unfoldable pub canonical : List Task → ℕ → List Anchor
+unfoldable pub canonical : List Place → ℕ → List Anchor
 canonical l h = canonicalFrom (endWalk l) (readOf (at l 0)) (warmAt l 0) (h / at l 0 .period)
 
-module _ (l : List Task) (p : ℕ) where
+module _ (l : List Place) (p : ℕ) where
   starts : ℕ → ℕ
   starts m = readOf (at l 0) (countBack l 0 p (suc m) - 1)
 
@@ -71,16 +71,16 @@ module _ (l : List Task) (p : ℕ) where
       ∙ ap (λ (e : ℕ → ℕ). map (anchorOf l p) (dropRepeats e (select (λ k. differ (starts (suc k)) (starts k)) m n))) (fun-ext end-same)
       ∙ ap (λ (f : ℕ → Anchor). map f (dropRepeats (λ k. endFrom l p (suc k)) (select (λ k. differ (starts (suc k)) (starts k)) m n))) (fun-ext anchor-same)
 
-pub read-same : (a : Task) → 1 ≤ a .period → (i j : ℕ) → readOf a i ≡ readOf a j → i ≡ j
+pub read-same : (a : Place) → 1 ≤ a .period → (i j : ℕ) → readOf a i ≡ readOf a j → i ≡ j
 read-same a h i j e = elim (decLt i j) [
   | yes l ↦ omega (arith, mul-le-mul-right (a .period) l)
   | no l ↦ elim (decLt j i) [ yes k ↦ omega (arith, mul-le-mul-right (a .period) k) | no k ↦ omega arith ]
 ]
 
-pub write-less : (a : Task) → 1 ≤ a .period → (i j : ℕ) → i < j → writeOf a i < writeOf a j
+pub write-less : (a : Place) → 1 ≤ a .period → (i j : ℕ) → i < j → writeOf a i < writeOf a j
 write-less a h i j l = omega (arith, mul-le-mul-right (a .period) l)
 
-module _ (l : List Task) (ok : Sound l) (p : ℕ) (h : p < length l) where
+module _ (l : List Place) (ok : Sound l) (p : ℕ) (h : p < length l) where
   last-in : lastPlace l < length l
   last-in = omega (arith, ok .some)
 
@@ -161,5 +161,5 @@ module _ (l : List Task) (ok : Sound l) (p : ℕ) (h : p < length l) where
       same j = ap (writeOf (at l (lastPlace l))) (sym (walk-parts j))
 
 -- Whichever two places the chain is cut at, its anchors are the same.
-pub cut-free : (l : List Task) → Sound l → (p q : ℕ) → p < length l → q < length l → anchorsOf l p (hyperOf l) ≡ anchorsOf l q (hyperOf l)
+pub cut-free : (l : List Place) → Sound l → (p q : ℕ) → p < length l → q < length l → anchorsOf l p (hyperOf l) ≡ anchorsOf l q (hyperOf l)
 cut-free l ok p q h g = cut-canonical l ok p h ∙ sym (cut-canonical l ok q g)

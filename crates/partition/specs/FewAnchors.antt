@@ -6,7 +6,7 @@ use mathlib.Core.Bool.{Bool, true, false, not}
 use mathlib.Core.List.{List, [], _∷_}
 use lib.Dec.{eqb}
 use lib.ListN.{length, length-map}
-use Rattle.task.specs.declared.Task.{Task}
+use Rattle.task.specs.declared.Place.{Place}
 use Rattle.chain.specs.Chains.{at}
 use Rattle.chain.specs.Checks.{Sound}
 use Rattle.chain.specs.Hyperperiod.{hyperOf}
@@ -31,7 +31,7 @@ drop-length e [] = omega arith
 drop-length e (m ∷ l) = omega (arith, fresh-length e (e m) l)
 
 -- The anchors of a cut are at most as many as its range of m is long.
-pub anchors-walked : (l : List Task) (p h : ℕ) → length (anchorsOf l p h) ≤ length (rangeOf l p h)
+pub anchors-walked : (l : List Place) (p h : ℕ) → length (anchorsOf l p h) ≤ length (rangeOf l p h)
 unfolding anchorsFrom
 anchors-walked l p h =
     let n : ℕ = h / at l p .period in
@@ -47,5 +47,5 @@ anchors-walked l p h =
     )
 
 -- Cut at p, they are at most as many as the partitions that are walked at any place q.
-pub few-anchors : (l : List Task) → Sound l → (p q : ℕ) → p < length l → q < length l → length (anchorsOf l p (hyperOf l)) ≤ length (rangeOf l q (hyperOf l))
+pub few-anchors : (l : List Place) → Sound l → (p q : ℕ) → p < length l → q < length l → length (anchorsOf l p (hyperOf l)) ≤ length (rangeOf l q (hyperOf l))
 few-anchors l ok p q h g = omega (arith, ap length (cut-free l ok p q h g), anchors-walked l q (hyperOf l))

@@ -4,3 +4,4 @@ pub mod Selections
 pub mod CanonicalAnchors
 pub mod CutFree
 pub mod FewAnchors
+pub mod WithoutGap

@@ -6,10 +6,11 @@ use mathlib.Core.Path.{_≡_, refl, sym, _∙_}
 use mathlib.Core.Bool.{cond}
 use mathlib.Core.List.{List, [], _∷_}
 use lib.Dec.{ltb, leb}
-use lib.ListN.{length, take, drop}
+use lib.ListN.{length, take, drop, getD}
 use borrow.Author.Tests.{lt-ltb, le-ltb, le-leb, lt-leb, eq-eqb}
 use Rattle.task.specs.declared.Task.{Task}
-use Rattle.chain.specs.Chains.{at, zeroTask}
+use Rattle.task.specs.declared.Place.{Place}
+use Rattle.chain.specs.Chains.{placed, zeroTask}
 use Rattle.chain.proofs.Front.{front-cons, front-end}
 use Rattle.schedule.specs.Schedules.{positionOf}
 use Rattle.report.specs.Report.{longestPeriod, longestPlace}
@@ -17,15 +18,15 @@ use Rattle.schedule.specs.Numbers.{position-here, position-past}
 use Rattle.report.specs.LongestPlace.{periods, first-longest, later-longer}
 
 -- what the loop ends with, b being the longest period so far, p its place, and i the number of tasks before l
-unfoldable pub pick : ℕ → ℕ → ℕ → List Task → ℕ
+unfoldable pub pick : ℕ → ℕ → ℕ → List Place → ℕ
 pick b p i [] = p
 pick b p i (t ∷ l) = cond (ltb b (t .period)) (pick (t .period) (i + 1) (i + 1) l) (pick b p (i + 1) l)
 
 -- the first of the periods in l that is longer than b and longest, or p where none is longer
-abbrev found : ℕ → ℕ → ℕ → List Task → ℕ
+abbrev found : ℕ → ℕ → ℕ → List Place → ℕ
 found b p i l = cond (leb (longestPeriod l) b) p (i + positionOf (longestPeriod l) (periods l) + 1)
 
-module _ (t : Task) (l : List Task) where
+module _ (t : Place) (l : List Place) where
   longest-longer : (b p i : ℕ) → b < t .period → found (t .period) (i + 1) (i + 1) l ≡ found b p i (t ∷ l)
   longest-longer b p i h = elim (decLe (longestPeriod l) (t .period)) [
     | yes k ↦
@@ -58,7 +59,7 @@ module _ (t : Task) (l : List Task) where
         | no q ↦ omega (arith, later-longer t l (omega arith))
       ]
 
-pick-found : (l : List Task) (b p i : ℕ) → pick b p i l ≡ found b p i l
+pick-found : (l : List Place) (b p i : ℕ) → pick b p i l ≡ found b p i l
 unfolding pick longestPeriod
 pick-found [] b p i = sym (rw (le-leb 0 b (omega arith)))
 pick-found (t ∷ l) b p i = elim (decLt b (t .period)) [
@@ -66,12 +67,12 @@ pick-found (t ∷ l) b p i = elim (decLt b (t .period)) [
   | no h ↦ rw (le-ltb b (t .period) (omega arith)) (pick-found l b p (i + 1) ∙ longest-not t l b p i (omega arith))
 ]
 
-all-zero : (l : List Task) → longestPeriod l ≤ 0 → positionOf (longestPeriod l) (periods l) ≡ 0
+all-zero : (l : List Place) → longestPeriod l ≤ 0 → positionOf (longestPeriod l) (periods l) ≡ 0
 unfolding longestPeriod positionOf
 all-zero [] h = refl
 all-zero (t ∷ l) h = let e : t .period ≡ max (t .period) (longestPeriod l) = omega arith in rw (eq-eqb (t .period) (max (t .period) (longestPeriod l)) e)
 
-pub pick-all : (l : List Task) → longestPlace l ≡ pick 0 1 0 l
+pub pick-all : (l : List Place) → longestPlace l ≡ pick 0 1 0 l
 unfolding longestPlace
 pick-all l = sym (pick-found l 0 1 0 ∙ go)
   where
@@ -83,16 +84,19 @@ pick-all l = sym (pick-found l 0 1 0 ∙ go)
 
 -- ---- one turn
 
-module _ (ts : List Task) (n i : ℕ) (inside : n ≤ length ts) where
-  pub pick-longer : (b p : ℕ) → i < n → b < at ts i .period
-      → pick b p i (drop i (take n ts)) ≡ pick (at ts i .period) (i + 1) (i + 1) (drop (i + 1) (take n ts))
-  unfolding pick
-  pick-longer b p h k = rw (front-cons ts n i zeroTask h inside, lt-ltb b (at ts i .period) k)
+-- the tasks of the chain's array, at places with the gap g
+module _ (g : ℕ) (ts : List Task) (n i : ℕ) (inside : n ≤ length ts) where
+  abbrev period : ℕ
+  period = getD ts i zeroTask .period
 
-  pub pick-not : (b p : ℕ) → i < n → at ts i .period ≤ b → pick b p i (drop i (take n ts)) ≡ pick b p (i + 1) (drop (i + 1) (take n ts))
+  pub pick-longer : (b p : ℕ) → i < n → b < period → pick b p i (placed g (drop i (take n ts))) ≡ pick period (i + 1) (i + 1) (placed g (drop (i + 1) (take n ts)))
   unfolding pick
-  pick-not b p h k = rw (front-cons ts n i zeroTask h inside, le-ltb b (at ts i .period) k)
+  pick-longer b p h k = rw (front-cons ts n i zeroTask h inside, lt-ltb b (getD ts i zeroTask .period) k)
 
-  pub pick-end : (b p : ℕ) → n ≤ i → pick b p i (drop i (take n ts)) ≡ p
+  pub pick-not : (b p : ℕ) → i < n → period ≤ b → pick b p i (placed g (drop i (take n ts))) ≡ pick b p (i + 1) (placed g (drop (i + 1) (take n ts)))
+  unfolding pick
+  pick-not b p h k = rw (front-cons ts n i zeroTask h inside, le-ltb b (getD ts i zeroTask .period) k)
+
+  pub pick-end : (b p : ℕ) → n ≤ i → pick b p i (placed g (drop i (take n ts))) ≡ p
   unfolding pick
   pick-end b p h = rw (front-end ts n i h inside)

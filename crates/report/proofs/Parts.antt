@@ -32,12 +32,12 @@ module _ (s : Schedule) where
   left-cons i h = let e : s .chains - i ≡ suc (s .chains - suc i) = omega arith in rw e
 
   -- the chain that the loop takes from the array
-  chain-there : (i : ℕ) → i < s .chains → chainOf (tasksIn s) (getD (s .routes) i noRoute) ≡ chainAt s (suc i)
+  chain-there : (i : ℕ) → i < s .chains → chainOf (s .gap) (tasksIn s) (getD (s .routes) i noRoute) ≡ chainAt s (suc i)
   chain-there i h =
       let e : suc i - 1 ≡ i = omega arith in
-      ap (λ (k : ℕ). chainOf (tasksIn s) (getD (s .routes) k noRoute)) (sym e) ∙ ap (chainOf (tasksIn s)) (sym (route-there s (suc i) (omega arith) h))
+      ap (λ (k : ℕ). chainOf (s .gap) (tasksIn s) (getD (s .routes) k noRoute)) (sym e) ∙ ap (chainOf (s .gap) (tasksIn s)) (sym (route-there s (suc i) (omega arith) h))
 
-  pub far-more : (old m new : List ℕ) (at to i : ℕ) (c : Chain) → i < s .chains → Far s old m at i → c ≡ chainOf (tasksIn s) (getD (s .routes) i noRoute)
+  pub far-more : (old m new : List ℕ) (at to i : ℕ) (c : Chain) → i < s .chains → Far s old m at i → c ≡ chainOf (s .gap) (tasksIn s) (getD (s .routes) i noRoute)
       → Puts (partText 1024 (i + 1) c) at m new to → Far s old new to (i + 1)
   far-more old m new at to i c h f e p =
       let n : i + 1 ≡ suc i = omega arith in

@@ -5,16 +5,16 @@ use native.Mathlib.Decide.{decLe}
 use mathlib.Core.Path.{_≡_, refl}
 use mathlib.Core.List.{List, [], _∷_, map}
 use lib.ListN.{length}
-use Rattle.task.specs.declared.Task.{Task}
+use Rattle.task.specs.declared.Place.{Place}
 use Rattle.chain.specs.Chains.{at}
 use Rattle.schedule.specs.Schedules.{positionOf}
 use Rattle.schedule.specs.Numbers.{position-here, position-past}
 use Rattle.report.specs.Report.{longestPeriod, longestPlace}
 
-abbrev pub periods : List Task → List ℕ
-periods = map (λ (t : Task). t .period)
+abbrev pub periods : List Place → List ℕ
+periods = map (λ (t : Place). t .period)
 
-module _ (t : Task) (l : List Task) where
+module _ (t : Place) (l : List Place) where
   pub first-longest : longestPeriod l ≤ t .period → longestPeriod (t ∷ l) ≡ t .period
   unfolding longestPeriod
   first-longest h = omega arith
@@ -23,22 +23,22 @@ module _ (t : Task) (l : List Task) where
   unfolding longestPeriod
   later-longer h = omega arith
 
-none-longer : (l : List Task) (i : ℕ) → i < length l → at l i .period ≤ longestPeriod l
+none-longer : (l : List Place) (i : ℕ) → i < length l → at l i .period ≤ longestPeriod l
 unfolding longestPeriod
 none-longer [] i h = absurd (omega arith)
 none-longer (t ∷ l) zero h = omega arith
 none-longer (t ∷ l) (suc i) h = omega (arith, none-longer l i (omega arith))
 
-some-task : (l : List Task) → 0 < longestPeriod l → 1 ≤ length l
+some-task : (l : List Place) → 0 < longestPeriod l → 1 ≤ length l
 unfolding longestPeriod
 some-task [] h = absurd (omega arith)
 some-task (t ∷ l) h = omega arith
 
 -- q is the first place with period n, counted from 0
-abbrev First : List Task → ℕ → ℕ → Type 0
+abbrev First : List Place → ℕ → ℕ → Type 0
 First l n q = (q < length l) × (at l q .period ≡ n) × ((i : ℕ) → i < q → at l i .period < n)
 
-first : (l : List Task) → 1 ≤ length l → First l (longestPeriod l) (positionOf (longestPeriod l) (periods l))
+first : (l : List Place) → 1 ≤ length l → First l (longestPeriod l) (positionOf (longestPeriod l) (periods l))
 first [] h = absurd (omega arith)
 first (t ∷ l) h = elim (decLe (longestPeriod l) (t .period)) [
   | yes k ↦ rw (first-longest t l k, position-here (t .period) (t .period) (periods l) refl) (omega arith, refl, λ i g. absurd (omega arith))
@@ -56,13 +56,13 @@ first (t ∷ l) h = elim (decLe (longestPeriod l) (t .period)) [
         before (suc i) g = f .2 i (omega arith)
 
 -- Place p, counted from 1, has the longest period and is the lowest that has.
-pub record Longest (l : List Task) (p : ℕ) : Type 0 where
+pub record Longest (l : List Place) (p : ℕ) : Type 0 where
   pub some : 1 ≤ p
   pub inside : p ≤ length l
   pub longest : (i : ℕ) → i < length l → at l i .period ≤ at l (p - 1) .period
   pub lowest : (i : ℕ) → i + 1 < p → at l i .period < at l (p - 1) .period
 
-pub longest-place : (l : List Task) → 1 ≤ length l → Longest l (longestPlace l)
+pub longest-place : (l : List Place) → 1 ≤ length l → Longest l (longestPlace l)
 unfolding longestPlace
 longest-place l h =
     let q = positionOf (longestPeriod l) (periods l) in
@@ -76,7 +76,7 @@ longest-place l h =
     }
 
 -- The period there is the longest.
-pub longest-is : (l : List Task) → 1 ≤ length l → at l (longestPlace l - 1) .period ≡ longestPeriod l
+pub longest-is : (l : List Place) → 1 ≤ length l → at l (longestPlace l - 1) .period ≡ longestPeriod l
 unfolding longestPlace
 longest-is l h =
     let q = positionOf (longestPeriod l) (periods l) in

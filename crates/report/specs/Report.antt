@@ -6,7 +6,7 @@ use mathlib.Core.List.{List, [], _∷_, _++_, map}
 use lib.Dec.{eqb}
 use lib.ListN.{length}
 use Rattle.refusal.specs.Refusals.{refusal}
-use Rattle.task.specs.declared.Task.{Task}
+use Rattle.task.specs.declared.Place.{Place}
 use Rattle.chain.specs.declared.Chain.{Chain}
 use Rattle.chain.specs.Chains.{tasksOf}
 use Rattle.schedule.specs.declared.Schedule.{Schedule}
@@ -21,13 +21,13 @@ use Rattle.text.specs.Text.{ascii, line}
 use Rattle.table_text.specs.TableText.{refusedText, tableText}
 
 -- The longest period of a chain,
-unfoldable pub longestPeriod : List Task → ℕ
+unfoldable pub longestPeriod : List Place → ℕ
 longestPeriod [] = 0
 longestPeriod (t ∷ l) = max (t .period) (longestPeriod l)
 
 -- and its place, counted from 1; the lowest place among equals.
-unfoldable pub longestPlace : List Task → ℕ
-longestPlace l = positionOf (longestPeriod l) (map (λ (t : Task). t .period) l) + 1
+unfoldable pub longestPlace : List Place → ℕ
+longestPlace l = positionOf (longestPeriod l) (map (λ (t : Place). t .period) l) + 1
 
 -- What making answered. Where the slots do not hold all anchors the one line is that of 11, which has no place.
 unfoldable pub madeText : Made → List Anchor → List ℕ

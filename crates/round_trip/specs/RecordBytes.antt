@@ -9,8 +9,8 @@ use Rattle.little_endian.specs.LittleEndian.{bytesOf, numberAt, Bytes, power}
 use Rattle.little_endian.specs.Spelling.{length-bytes}
 use Rattle.little_endian.specs.Fields.{number-front, number-past, bytes-of-number, take-join}
 use Rattle.schedule.specs.declared.NumberedTask.{NumberedTask}
-use Rattle.file_reader.specs.Reading.{lengthField, kindField, taskField, numbersFrom, chainField}
-use Rattle.file_writer.specs.FileBytes.{taskBytes, numbersBytes, chainBytes, endBytes}
+use Rattle.file_reader.specs.Reading.{lengthField, kindField, taskField, numbersFrom, chainField, gapField}
+use Rattle.file_writer.specs.FileBytes.{taskBytes, numbersBytes, chainBytes, gapBytes, endBytes}
 
 -- Values that fit their fields.
 pub record FitsTask (t : NumberedTask) : Type 0 where
@@ -33,6 +33,12 @@ module _ (long kind : ℕ) (body : List ℕ) (a : long < 65536) (b : kind < 6553
   pub head-kind : kindField (bytesOf 2 long ++ (bytesOf 2 kind ++ body)) ≡ kind
   head-kind = number-past (bytesOf 2 long) (bytesOf 2 kind ++ body) 2 0 2 (length-bytes 2 long) ∙ number-front 2 kind body (two kind b)
 
+-- past both
+past-head : (long kind : ℕ) (body : List ℕ) (at w : ℕ) → numberAt (bytesOf 2 long ++ (bytesOf 2 kind ++ body)) (2 + (2 + at)) w ≡ numberAt body at w
+past-head long kind body at w =
+    number-past (bytesOf 2 long) (bytesOf 2 kind ++ body) 2 (2 + at) w (length-bytes 2 long)
+    ∙ number-past (bytesOf 2 kind) body 2 at w (length-bytes 2 kind)
+
 module _ (t : NumberedTask) (rest : List ℕ) where
   task-body : List ℕ
   task-body = bytesOf 2 (t .number) ++ (bytesOf 4 (t .task .period) ++ (bytesOf 4 (t .task .duration) ++ (bytesOf 4 (t .task .phase) ++ rest)))
@@ -41,13 +47,9 @@ module _ (t : NumberedTask) (rest : List ℕ) where
   unfolding taskBytes
   task-front = simp append-assoc
 
-  -- past two fields of two bytes
-  past-head : (at w : ℕ) → numberAt (taskBytes t ++ rest) (2 + (2 + at)) w ≡ numberAt task-body at w
+  in-body : (at w : ℕ) → numberAt (taskBytes t ++ rest) (2 + (2 + at)) w ≡ numberAt task-body at w
   unfolding task-body
-  past-head at w =
-      ap (λ (l : List ℕ). numberAt l (2 + (2 + at)) w) task-front
-      ∙ number-past (bytesOf 2 18) (bytesOf 2 1 ++ task-body) 2 (2 + at) w (length-bytes 2 18)
-      ∙ number-past (bytesOf 2 1) task-body 2 at w (length-bytes 2 1)
+  in-body at w = ap (λ (l : List ℕ). numberAt l (2 + (2 + at)) w) task-front ∙ past-head 18 1 task-body at w
 
   pub task-read : FitsTask t → taskField (taskBytes t ++ rest) ≡ t
   unfolding task-body
@@ -55,14 +57,14 @@ module _ (t : NumberedTask) (rest : List ℕ) where
       let d4 : List ℕ = bytesOf 4 (t .task .phase) ++ rest in
       let d3 : List ℕ = bytesOf 4 (t .task .duration) ++ d4 in
       let d2 : List ℕ = bytesOf 4 (t .task .period) ++ d3 in
-      let n : numberAt (taskBytes t ++ rest) 4 2 ≡ t .number = past-head 0 2 ∙ number-front 2 (t .number) d2 (f .number) in
+      let n : numberAt (taskBytes t ++ rest) 4 2 ≡ t .number = in-body 0 2 ∙ number-front 2 (t .number) d2 (f .number) in
       let p : numberAt (taskBytes t ++ rest) 6 4 ≡ t .task .period
-      = past-head 2 4 ∙ number-past (bytesOf 2 (t .number)) d2 2 0 4 (length-bytes 2 (t .number)) ∙ number-front 4 (t .task .period) d3 (f .period) in
+      = in-body 2 4 ∙ number-past (bytesOf 2 (t .number)) d2 2 0 4 (length-bytes 2 (t .number)) ∙ number-front 4 (t .task .period) d3 (f .period) in
       let d : numberAt (taskBytes t ++ rest) 10 4 ≡ t .task .duration
-      = past-head 6 4 ∙ number-past (bytesOf 2 (t .number)) d2 2 4 4 (length-bytes 2 (t .number))
+      = in-body 6 4 ∙ number-past (bytesOf 2 (t .number)) d2 2 4 4 (length-bytes 2 (t .number))
       ∙ number-past (bytesOf 4 (t .task .period)) d3 4 0 4 (length-bytes 4 (t .task .period)) ∙ number-front 4 (t .task .duration) d4 (f .duration) in
       let h : numberAt (taskBytes t ++ rest) 14 4 ≡ t .task .phase
-      = past-head 10 4 ∙ number-past (bytesOf 2 (t .number)) d2 2 8 4 (length-bytes 2 (t .number))
+      = in-body 10 4 ∙ number-past (bytesOf 2 (t .number)) d2 2 8 4 (length-bytes 2 (t .number))
       ∙ number-past (bytesOf 4 (t .task .period)) d3 4 4 4 (length-bytes 4 (t .task .period))
       ∙ number-past (bytesOf 4 (t .task .duration)) d4 4 0 4 (length-bytes 4 (t .task .duration)) ∙ number-front 4 (t .task .phase) rest (f .phase) in
       rw (n, p, d, h)
@@ -95,6 +97,16 @@ module _ (ch rest : List ℕ) where
   chain-read s =
       ap (λ (l : List ℕ). numbersFrom l 4 (length ch)) (chain-front ∙ sym (append-assoc (bytesOf 2 (4 + 2 * length ch)) (bytesOf 2 2) (numbersBytes ch ++ rest)))
       ∙ numbers-read ch (bytesOf 2 (4 + 2 * length ch) ++ bytesOf 2 2) rest 4 (simp (length-append, length-bytes)) s
+
+-- a gap that has a record
+module _ (g : ℕ) (rest : List ℕ) where
+  pub gap-front : gapBytes (suc g) ++ rest ≡ bytesOf 2 6 ++ (bytesOf 2 4 ++ (bytesOf 2 (suc g) ++ rest))
+  unfolding gapBytes
+  gap-front = simp append-assoc
+
+  pub gap-read : suc g < 65536 → gapField (gapBytes (suc g) ++ rest) ≡ suc g
+  gap-read h =
+      ap (λ (l : List ℕ). numberAt l 4 2) gap-front ∙ past-head 6 4 (bytesOf 2 (suc g) ++ rest) 0 2 ∙ number-front 2 (suc g) rest (two (suc g) h)
 
 -- ---- what was read is written
 
@@ -143,6 +155,11 @@ module _ (l : List ℕ) (is : Bytes l) where
   chain-back p a b h e =
       let s : lengthField l ≡ 4 + 2 * length (chainField l p) = a ∙ ap (λ (n : ℕ). 4 + 2 * n) (sym e) in
       body-back (4 + 2 * length (chainField l p)) 2 s b (omega arith) (numbersBytes (chainField l p)) (2 * p) h (numbers-back p 4 h)
+
+  pub gap-back : (g : ℕ) → lengthField l ≡ 6 → kindField l ≡ 4 → 6 ≤ length l → 1 ≤ g → g ≡ gapField l → gapBytes g ++ drop 6 l ≡ l
+  unfolding gapBytes
+  gap-back zero a b h some e = absurd (omega arith)
+  gap-back (suc g) a b h some e = body-back 6 4 a b (omega arith) (bytesOf 2 (suc g)) 2 h (ap (bytesOf 2) e ∙ field 4 2 h)
 
   pub end-back : lengthField l ≡ 4 → kindField l ≡ 3 → 4 ≤ length l → length l ≤ 4 → endBytes ≡ l
   unfolding endBytes

@@ -1,4 +1,4 @@
--- Tasks and chains that writing accepts and reading ends with.
+-- Tasks, chains and a gap that writing accepts and reading ends with.
 use Prim.Native.Nat.{ℕ, zero, suc, _+_, _-_, _≤_, _<_}
 use native.Mathlib.Omega.{arith}
 use mathlib.Core.Path.{_≡_, refl, ap, _∙_}
@@ -9,6 +9,7 @@ use lib.ListN.{length, getD}
 use lib.Seq.{length-take-le}
 use borrow.Author.Tests.{eqb-true}
 use Rattle.little_endian.specs.LittleEndian.{power}
+use Rattle.task.specs.Jobs.{gapLimit}
 use Rattle.schedule.specs.declared.NumberedTask.{NumberedTask}
 use Rattle.schedule.specs.declared.Route.{Route}
 use Rattle.schedule.specs.Schedules.{numberOf, taskRule, known, placesOf, noRoute, routeOf, emptyRoute}
@@ -24,13 +25,14 @@ pub data Placed (ns : List ℕ) : List (List ℕ) → Type 0 where
   no-chain : Placed ns []
   one-more : {ch : List ℕ} {chs : List (List ℕ)} → 1 ≤ length ch → length ch ≤ 12 → firstUnknown 1 ns ch ≡ 0 → Placed ns chs → Placed ns (ch ∷ chs)
 
-pub record Right (ts : List NumberedTask) (chs : List (List ℕ)) : Type 0 where
+pub record Right (ts : List NumberedTask) (chs : List (List ℕ)) (g : ℕ) : Type 0 where
   pub some : 1 ≤ length ts
   pub few : length ts ≤ 32
   pub tasks-right : firstFault 1 0 ts ≡ 0
   pub chained : 1 ≤ length chs
   pub few-chains : length chs ≤ 4
   pub placed : Placed (map numberOf ts) chs
+  pub permitted : g ≤ gapLimit
 
 -- a chain more, after the last
 pub placed-snoc : (ns : List ℕ) (chs : List (List ℕ)) (ch : List ℕ) → Placed ns chs → 1 ≤ length ch → length ch ≤ 12 → firstUnknown 1 ns ch ≡ 0 → Placed ns (chs ++ (ch ∷ []))

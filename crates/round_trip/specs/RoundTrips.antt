@@ -34,7 +34,7 @@ use Rattle.round_trip.specs.WriteAfterRead.{Ends, file-of-read}
 
 -- A schedule with zeros past its counts. Entries there are no part of a schedule.
 abbrev pub cleared : Schedule → Schedule
-cleared s = scheduleOf (tasksIn s) (chainsIn s)
+cleared s = scheduleOf (tasksIn s) (chainsIn s) (s .gap)
 
 -- What reading a file and writing it again answers: the refusal of reading, or 11 where the lent bytes are shorter than the file, or the file's length.
 unfoldable pub rewrittenOf : Refusal → ℕ → ℕ → Written
@@ -66,7 +66,7 @@ twelve-each s a w i h =
 chains-counted : (s : Schedule) → Arrays s → SoundSchedule s → length (chainsIn s) ≡ s .chains
 chains-counted s a w = length-map (routesIn s) placesOf ∙ length-take-le (s .chains) (s .routes) (omega (arith, a .routes, w .few-chains))
 
-right-of : (s : Schedule) → Arrays s → SoundSchedule s → Right (tasksIn s) (chainsIn s)
+right-of : (s : Schedule) → Arrays s → SoundSchedule s → Right (tasksIn s) (chainsIn s) (s .gap)
 right-of s a w =
     let t : length (tasksIn s) ≡ s .count = length-take-le (s .count) (s .tasks) (omega (arith, a .tasks, w .few)) in
     let p : length (chainsIn s) ≡ s .chains = chains-counted s a w in
@@ -77,32 +77,34 @@ right-of s a w =
       chained = omega (arith, w .chained);
       few-chains = omega (arith, w .few-chains);
       placed = placed-routes (map numberOf (tasksIn s)) (routesIn s) (twelve-each s a w) (w .placed) (w .places-known);
+      permitted = w .permitted;
     }
 
--- The schedule of such tasks and chains: its routes are those of the chains,
-routes-front : (ts : List NumberedTask) (chs : List (List ℕ)) → Right ts chs → routesIn (scheduleOf ts chs) ≡ map routeOf chs
-routes-front ts chs r =
+-- The schedule of such tasks, chains and gap: its routes are those of the chains,
+routes-front : (ts : List NumberedTask) (chs : List (List ℕ)) (g : ℕ) → Right ts chs g → routesIn (scheduleOf ts chs g) ≡ map routeOf chs
+routes-front ts chs g r =
     let n : length (map routeOf chs) ≡ length chs = length-map chs routeOf in
     ap (λ (k : ℕ). take k (padded 4 emptyRoute (map routeOf chs))) (sym n) ∙ take-padded emptyRoute 4 (map routeOf chs) (omega (arith, r .few-chains))
 
-routes-back : (ts : List NumberedTask) (chs : List (List ℕ)) → Right ts chs → chainsIn (scheduleOf ts chs) ≡ chs
-routes-back ts chs r = ap (map placesOf) (routes-front ts chs r) ∙ routes-same (map numberOf ts) chs (r .placed)
+routes-back : (ts : List NumberedTask) (chs : List (List ℕ)) (g : ℕ) → Right ts chs g → chainsIn (scheduleOf ts chs g) ≡ chs
+routes-back ts chs g r = ap (map placesOf) (routes-front ts chs g r) ∙ routes-same (map numberOf ts) chs (r .placed)
 
 -- it is sound,
-right-sound : (ts : List NumberedTask) (chs : List (List ℕ)) → Right ts chs → SoundSchedule (scheduleOf ts chs)
-right-sound ts chs r = record {
+right-sound : (ts : List NumberedTask) (chs : List (List ℕ)) (g : ℕ) → Right ts chs g → SoundSchedule (scheduleOf ts chs g)
+right-sound ts chs g r = record {
   some = r .some;
   few = r .few;
   chained = r .chained;
   few-chains = r .few-chains;
-  placed = rw (routes-front ts chs r) (routes-placed (map numberOf ts) chs (r .placed));
+  placed = rw (routes-front ts chs g r) (routes-placed (map numberOf ts) chs (r .placed));
   tasks-right = rw (take-padded zeroNumbered 32 ts (r .few)) (r .tasks-right);
-  places-known = rw (take-padded zeroNumbered 32 ts (r .few), routes-back ts chs r) (routes-known (map numberOf ts) chs (r .placed));
+  permitted = r .permitted;
+  places-known = rw (take-padded zeroNumbered 32 ts (r .few), routes-back ts chs g r) (routes-known (map numberOf ts) chs (r .placed));
 }
 
 -- and its arrays have their lengths.
-right-arrays : (ts : List NumberedTask) (chs : List (List ℕ)) → Right ts chs → Arrays (scheduleOf ts chs)
-right-arrays ts chs r = record {
+right-arrays : (ts : List NumberedTask) (chs : List (List ℕ)) (g : ℕ) → Right ts chs g → Arrays (scheduleOf ts chs g)
+right-arrays ts chs g r = record {
   tasks = length-padded zeroNumbered 32 ts (r .few);
   routes = length-padded emptyRoute 4 (map routeOf chs) (omega (arith, length-map chs routeOf, r .few-chains));
   places = λ i h. ap (λ (c : Route). length (c .places)) (padded-at emptyRoute 4 (map routeOf chs) i noRoute h) ∙ routes-twelve (map numberOf ts) chs (r .placed) i;
@@ -116,30 +118,31 @@ route-at (r ∷ rs) (suc c) h = route-at rs c (omega arith)
 
 -- Reading what was written returns the schedule.
 pub read-after-write : (s : Schedule) (lent n : ℕ) → Arrays s → writtenOf s lent ≡ written.Bytes n → readFile (fileBytes s) ≡ record { refusal = none; schedule = cleared s }
-read-after-write s lent n a h = read-of-file (tasksIn s) (chainsIn s) (right-of s a (accepted s lent n h .is-sound))
+read-after-write s lent n a h = read-of-file (tasksIn s) (chainsIn s) (s .gap) (right-of s a (accepted s lent n h .is-sound))
 
--- It is the same schedule: it has the same tasks, the same chains and the same counts.
+-- It is the same schedule: it has the same tasks, the same chains, the same counts and the same gap.
 pub cleared-parts : (s : Schedule) (lent n : ℕ) → Arrays s → writtenOf s lent ≡ written.Bytes n
-    → (tasksIn (cleared s) ≡ tasksIn s) × (chainsIn (cleared s) ≡ chainsIn s) × (cleared s .count ≡ s .count) × (cleared s .chains ≡ s .chains)
+    → (tasksIn (cleared s) ≡ tasksIn s) × (chainsIn (cleared s) ≡ chainsIn s) × (cleared s .count ≡ s .count) × (cleared s .chains ≡ s .chains) × (cleared s .gap ≡ s .gap)
 cleared-parts s lent n a h =
     let w = accepted s lent n h .is-sound in
     let r = right-of s a w in (
       take-padded zeroNumbered 32 (tasksIn s) (r .few),
-      routes-back (tasksIn s) (chainsIn s) r,
+      routes-back (tasksIn s) (chainsIn s) (s .gap) r,
       length-take-le (s .count) (s .tasks) (omega (arith, a .tasks, w .few)),
       chains-counted s a w,
+      refl,
     )
 
--- Of such tasks and chains every route has at most twelve places, those past the chains too.
-right-places : (ts : List NumberedTask) (chs : List (List ℕ)) → Right ts chs → (c : ℕ) → c < 4 → getD (scheduleOf ts chs .routes) c noRoute .count ≤ 12
-right-places ts chs r c h = rw (padded-at emptyRoute 4 (map routeOf chs) c noRoute h) (routes-few (map numberOf ts) chs (r .placed) c)
+-- Of such tasks, chains and gap every route has at most twelve places, those past the chains too.
+right-places : (ts : List NumberedTask) (chs : List (List ℕ)) (g : ℕ) → Right ts chs g → (c : ℕ) → c < 4 → getD (scheduleOf ts chs g .routes) c noRoute .count ≤ 12
+right-places ts chs g r c h = rw (padded-at emptyRoute 4 (map routeOf chs) c noRoute h) (routes-few (map numberOf ts) chs (r .placed) c)
 
 -- So of the schedule that is returned: its arrays have their lengths and its routes few places,
 pub cleared-arrays : (s : Schedule) (lent n : ℕ) → Arrays s → writtenOf s lent ≡ written.Bytes n
     → (Arrays (cleared s)) × ((c : ℕ) → c < 4 → getD (cleared s .routes) c noRoute .count ≤ 12)
 cleared-arrays s lent n a h =
     let r = right-of s a (accepted s lent n h .is-sound) in
-    (right-arrays (tasksIn s) (chainsIn s) r, right-places (tasksIn s) (chainsIn s) r)
+    (right-arrays (tasksIn s) (chainsIn s) (s .gap) r, right-places (tasksIn s) (chainsIn s) (s .gap) r)
 
 -- and each of its routes has the places of the schedule's own.
 pub cleared-places : (s : Schedule) (lent n : ℕ) → Arrays s → writtenOf s lent ≡ written.Bytes n → (c : ℕ) → c < s .chains
@@ -151,30 +154,33 @@ cleared-places s lent n a h c g =
     ∙ ap (λ (x : Route). routeOf (placesOf x)) (getD-take (s .chains) (s .routes) c noRoute g)
 
 -- A schedule that has zeros past its counts, as every schedule has that reading gives, is returned itself.
-pub cleared-same : (ts : List NumberedTask) (chs : List (List ℕ)) → Right ts chs → cleared (scheduleOf ts chs) ≡ scheduleOf ts chs
-cleared-same ts chs r = rw (take-padded zeroNumbered 32 ts (r .few), routes-back ts chs r)
+pub cleared-same : (ts : List NumberedTask) (chs : List (List ℕ)) (g : ℕ) → Right ts chs g → cleared (scheduleOf ts chs g) ≡ scheduleOf ts chs g
+cleared-same ts chs g r = rw (take-padded zeroNumbered 32 ts (r .few), routes-back ts chs g r)
 
 -- Of a file that reading accepts: its refusal number is 0.
 module _ (b : List ℕ) (is : Bytes b) (fine : readFile b .refusal .number ≡ 0) where
   ends : Ends b (readFile b)
   ends = file-of-read b is fine
 
-  in-schedule : readFile b .schedule ≡ scheduleOf (ends .tasks) (ends .chains)
+  in-schedule : readFile b .schedule ≡ scheduleOf (ends .tasks) (ends .chains) (ends .gap)
   in-schedule = ap (λ (r : FileRead). r .schedule) (ends .is)
 
   in-tasks : tasksIn (readFile b .schedule) ≡ ends .tasks
   in-tasks = ap tasksIn in-schedule ∙ take-padded zeroNumbered 32 (ends .tasks) (ends .right .few)
 
   in-chains : chainsIn (readFile b .schedule) ≡ ends .chains
-  in-chains = ap chainsIn in-schedule ∙ routes-back (ends .tasks) (ends .chains) (ends .right)
+  in-chains = ap chainsIn in-schedule ∙ routes-back (ends .tasks) (ends .chains) (ends .gap) (ends .right)
 
   -- The file of the schedule that was read is the file that was read,
   pub spelt-again : fileBytes (readFile b .schedule) ≡ b
-  spelt-again = ap (λ (ts : List NumberedTask). fileOf ts (chainsIn (readFile b .schedule))) in-tasks ∙ ap (fileOf (ends .tasks)) in-chains ∙ ends .spelt
+  spelt-again =
+      let s : Schedule = readFile b .schedule in
+      ap (λ (ts : List NumberedTask). fileOf ts (chainsIn s) (s .gap)) in-tasks ∙ ap (λ (chs : List (List ℕ)). fileOf (ends .tasks) chs (s .gap)) in-chains
+      ∙ ap (λ (x : Schedule). fileOf (ends .tasks) (ends .chains) (x .gap)) in-schedule ∙ ends .spelt
 
   -- the schedule is sound,
   pub read-sound : SoundSchedule (readFile b .schedule)
-  read-sound = rw in-schedule (right-sound (ends .tasks) (ends .chains) (ends .right))
+  read-sound = rw in-schedule (right-sound (ends .tasks) (ends .chains) (ends .gap) (ends .right))
 
   -- so what writing it answers depends on the lent bytes alone.
   pub written-again : (lent : ℕ) → writtenOf (readFile b .schedule) lent ≡ lengthVerdict (length b) lent
@@ -193,11 +199,11 @@ module _ (b : List ℕ) (is : Bytes b) (fine : readFile b .refusal .number ≡ 0
 
   -- It is the file of the schedule that was read, which writing accepts,
   pub read-arrays : Arrays (readFile b .schedule)
-  read-arrays = rw in-schedule (right-arrays (ends .tasks) (ends .chains) (ends .right))
+  read-arrays = rw in-schedule (right-arrays (ends .tasks) (ends .chains) (ends .gap) (ends .right))
 
   -- of which every route has at most twelve places, those past the chains too,
   pub read-places : (c : ℕ) → c < 4 → getD (readFile b .schedule .routes) c noRoute .count ≤ 12
-  read-places = rw in-schedule (right-places (ends .tasks) (ends .chains) (ends .right))
+  read-places = rw in-schedule (right-places (ends .tasks) (ends .chains) (ends .gap) (ends .right))
 
   -- and of no other.
   pub one-schedule : (s : Schedule) (lent n : ℕ) → Arrays s → writtenOf s lent ≡ written.Bytes n → fileBytes s ≡ b → cleared s ≡ readFile b .schedule

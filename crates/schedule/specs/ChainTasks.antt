@@ -6,7 +6,8 @@ use mathlib.Core.List.{List, map}
 use lib.ListN.{length, getD, take, length-map, length-take}
 use lib.Seq.{getD-take, length-take-le}
 use Rattle.task.specs.declared.Task.{Task}
-use Rattle.chain.specs.Chains.{tasksOf, zeroTask}
+use Rattle.task.specs.Jobs.{placeOf}
+use Rattle.chain.specs.Chains.{givenOf, tasksOf, zeroTask}
 use Rattle.schedule.specs.declared.NumberedTask.{NumberedTask}
 use Rattle.schedule.specs.declared.Route.{Route}
 use Rattle.schedule.specs.declared.Schedule.{Schedule}
@@ -20,11 +21,11 @@ route-there s zero low high = absurd (omega arith)
 route-there s (suc i) low high = let e : suc i - 1 ≡ i = omega arith in rw e (getD-take (s .chains) (s .routes) i noRoute (omega arith))
 
 -- `long` holds of every value of the type.
-module _ (ts : List NumberedTask) (r : Route) (long : length (r .places) ≡ 12) where
+module _ (g : ℕ) (ts : List NumberedTask) (r : Route) (long : length (r .places) ≡ 12) where
   abbrev at-places : List Task
   at-places = map (taskNumbered ts) (placesOf r)
 
-  pub chain-twelve : length (chainOf ts r .tasks) ≡ 12
+  pub chain-twelve : length (chainOf g ts r .tasks) ≡ 12
   chain-twelve = length-padded zeroTask 12 at-places (omega (arith, length-map (placesOf r) (taskNumbered ts), length-take (r .count) (r .places)))
 
   -- `few` is what 8 leaves
@@ -32,8 +33,8 @@ module _ (ts : List NumberedTask) (r : Route) (long : length (r .places) ≡ 12)
     counted : length at-places ≡ r .count
     counted = length-map (placesOf r) (taskNumbered ts) ∙ length-take-le (r .count) (r .places) (omega arith)
 
-    pub chain-tasks : tasksOf (chainOf ts r) ≡ map (taskNumbered ts) (placesOf r)
+    pub chain-tasks : givenOf (chainOf g ts r) ≡ map (taskNumbered ts) (placesOf r)
     chain-tasks = ap (λ (k : ℕ). take k (padded 12 zeroTask at-places)) (sym counted) ∙ take-padded zeroTask 12 at-places (omega (arith, counted))
 
-    pub chain-length : length (tasksOf (chainOf ts r)) ≡ r .count
-    chain-length = ap length chain-tasks ∙ counted
+    pub chain-length : length (tasksOf (chainOf g ts r)) ≡ r .count
+    chain-length = length-map (givenOf (chainOf g ts r)) (placeOf g) ∙ ap length chain-tasks ∙ counted

@@ -1,4 +1,4 @@
--- Document 01, "Tasks and jobs" and "Schedule file", with order 1 of document 02: the tasks of a schedule with their numbers, its chains, and the tasks at their places.
+-- Document 01, "Tasks and jobs" and "Schedule file", with orders 1 and 5 of document 02: the tasks of a schedule with their numbers, its chains, the tasks at their places, and its gap.
 use Prim.Native.Nat.{ℕ, zero, suc}
 use mathlib.Core.Bool.{Bool, true, false, cond, _&&_}
 use mathlib.Core.List.{List, [], _∷_, map}
@@ -62,9 +62,9 @@ padded zero d l = l
 padded (suc n) d [] = d ∷ padded n d []
 padded (suc n) d (x ∷ l) = x ∷ padded n d l
 
--- The chain of a route among tasks: the tasks at its places.
-abbrev pub chainOf : List NumberedTask → Route → Chain
-chainOf ts r = record { tasks = padded 12 zeroTask (map (taskNumbered ts) (placesOf r)); places = r .count }
+-- The chain of a route among tasks: the tasks at its places. Order 5: a schedule has one gap, g, for every link of every chain.
+abbrev pub chainOf : ℕ → List NumberedTask → Route → Chain
+chainOf g ts r = record { tasks = padded 12 zeroTask (map (taskNumbered ts) (placesOf r)); places = r .count; gap = g }
 
 -- No chain: no places.
 abbrev pub noRoute : Route
@@ -76,21 +76,21 @@ routeNumbered rs zero = noRoute
 routeNumbered rs (suc i) = getD rs i noRoute
 
 abbrev pub chainAt : Schedule → ℕ → Chain
-chainAt s n = chainOf (tasksIn s) (routeNumbered (routesIn s) n)
+chainAt s n = chainOf (s .gap) (tasksIn s) (routeNumbered (routesIn s) n)
 
 abbrev pub zeroNumbered : NumberedTask
 zeroNumbered = record { number = 0; task = zeroTask }
 
--- The schedule of a list of tasks and a list of chains: zeros past the counts.
+-- The schedule of a list of tasks, a list of chains and a gap: zeros past the counts.
 abbrev pub emptyRoute : Route
 emptyRoute = record { places = replicate 12 0; count = 0 }
 
 abbrev pub routeOf : List ℕ → Route
 routeOf ch = record { places = padded 12 0 ch; count = length ch }
 
-abbrev pub scheduleOf : List NumberedTask → List (List ℕ) → Schedule
-scheduleOf ts chs = record { tasks = padded 32 zeroNumbered ts; routes = padded 4 emptyRoute (map routeOf chs); count = length ts; chains = length chs }
+abbrev pub scheduleOf : List NumberedTask → List (List ℕ) → ℕ → Schedule
+scheduleOf ts chs g = record { tasks = padded 32 zeroNumbered ts; routes = padded 4 emptyRoute (map routeOf chs); count = length ts; chains = length chs; gap = g }
 
 -- A schedule of zeros.
 abbrev pub emptySchedule : Schedule
-emptySchedule = record { tasks = replicate 32 zeroNumbered; routes = replicate 4 emptyRoute; count = 0; chains = 0 }
+emptySchedule = record { tasks = replicate 32 zeroNumbered; routes = replicate 4 emptyRoute; count = 0; chains = 0; gap = 0 }

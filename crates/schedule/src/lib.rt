@@ -1,10 +1,10 @@
-// A schedule by value: its tasks with their numbers, its chains as the task numbers at their places, and their counts.
+// A schedule by value: its tasks with their numbers, its chains as the task numbers at their places, their counts, and the gap of the chains' links.
 // `chain_of` takes any schedule and any route. `follows` takes any task, `numbers_of` and `at_most` any values; what `find` requires is proved by the crates that call it.
 use chain::Chain;
 use task::Task;
 ghost use mathlib.Core.Path.{_≡_};
 ghost use mathlib.Core.List.{map};
-ghost use Prim.Native.Nat.{_+_, _*_, _≤_, _<_};
+ghost use Prim.Native.Nat.{_+_, _≤_, _<_};
 ghost use lib.ListN.{length, take};
 ghost use Rattle.schedule.specs.Schedules.{numberOf, tasksIn, taskRule, positionOf, least, chainOf};
 
@@ -21,11 +21,13 @@ pub struct Route {
 }
 
 // Document 01 with order 1 of document 02: up to 32 tasks and 1 to 4 chains, numbered by their place from 1. Entries from a count on are no part of the schedule.
+// Order 5: one gap, 0 to 1,000 ticks, for every link of every chain.
 pub struct Schedule {
     pub tasks: [NumberedTask; 32],
     pub routes: [Route; 4],
     pub count: usize,
     pub chains: usize,
+    pub gap: u64,
 }
 
 // Whether a task may follow one with the number `before`: its number is above that one and at most 65,535, and its values are inside their limits.
@@ -78,9 +80,9 @@ pub fn find(numbers: &[u64], count: usize, n: u64) -> usize
     count
 }
 
-// The chain of a route in a schedule: the tasks at its places. A number that no task has gives a task of zeros, whose period is outside its limits.
+// The chain of a route in a schedule: the tasks at its places, and the schedule's gap. A number that no task has gives a task of zeros, whose period is outside its limits.
 pub fn chain_of(s: Schedule, r: Route) -> Chain
-    ensures { λ c. ⌜ c ≡ chainOf (tasksIn s) r ⌝ }
+    ensures { λ c. ⌜ c ≡ chainOf (s .gap) (tasksIn s) r ⌝ }
 {
     let zero = Task {
         period: 0,
@@ -106,5 +108,6 @@ pub fn chain_of(s: Schedule, r: Route) -> Chain
     Chain {
         tasks,
         places: r.count,
+        gap: s.gap,
     }
 }

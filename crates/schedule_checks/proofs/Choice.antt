@@ -22,12 +22,12 @@ module _ (s : Schedule) (n : ℕ) where
       ap noneChosen is ∙ rw (ne-eqb (faultOf s .number) 0 e, ne-eqb (faultOf s .number) 0 e)
 
   module _ (fine : faultOf s .number ≡ 0) where
-    pub chain-chosen : (r : Refusal) (c : Chain) → r ≡ none → countRight n (s .chains) ≡ true → c ≡ chainOf (tasksIn s) (getD (s .routes) (n - 1) noRoute)
+    pub chain-chosen : (r : Refusal) (c : Chain) → r ≡ none → countRight n (s .chains) ≡ true → c ≡ chainOf (s .gap) (tasksIn s) (getD (s .routes) (n - 1) noRoute)
         → _≡_ {A = Chosen} (record { refusal = r; chain = c }) (chosenOf s n)
     unfolding choiceOf chosenOf
     chain-chosen r c q h e =
         let k = count-right n (s .chains) h in
-        let there : c ≡ chainAt s n = e ∙ ap (chainOf (tasksIn s)) (sym (route-there s n (k .0) (k .1))) in
+        let there : c ≡ chainAt s n = e ∙ ap (chainOf (s .gap) (tasksIn s)) (sym (route-there s n (k .0) (k .1))) in
         rw (q, there, eq-eqb (faultOf s .number) 0 fine, h)
 
     pub number-refused : countRight n (s .chains) ≡ false → noneChosen (refusal 16 0) ≡ chosenOf s n

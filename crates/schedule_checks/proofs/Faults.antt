@@ -6,14 +6,16 @@ use mathlib.Core.Bool.{true, false}
 use mathlib.Core.List.{List, [], _∷_, map}
 use lib.ListN.{length, take}
 use lib.Seq.{length-take-le}
+use borrow.Author.Tests.{le-leb, lt-leb}
 use Rattle.refusal.specs.declared.Refusal.{Refusal}
 use Rattle.refusal.specs.Refusals.{refusal, none}
+use Rattle.task.specs.Jobs.{gapLimit}
 use Rattle.schedule.specs.declared.NumberedTask.{NumberedTask}
 use Rattle.schedule.specs.declared.Route.{Route}
 use Rattle.schedule.specs.declared.Schedule.{Schedule}
 use Rattle.schedule.specs.Schedules.{numberOf, tasksIn, chainsIn, taskRule, positionOf}
 use Rattle.schedule.specs.Numbers.{known-position, unknown-position}
-use Rattle.schedule_checks.specs.Checks.{countRight, placesRight, countsRight, firstFault, firstUnknown, orElse, unknownPlace, faultAt, faultOf}
+use Rattle.schedule_checks.specs.Checks.{countRight, placesRight, countsRight, firstFault, firstUnknown, orElse, unknownPlace, faultAt, afterGap, faultOf}
 
 -- ---- 8, from the front
 
@@ -79,12 +81,19 @@ chains-none ns = refl
 -- ---- the judge
 
 module _ (s : Schedule) where
+  -- what is left after 8 and the tasks, and after the gap too
+  abbrev unknown : Refusal
+  unknown = faultAt 6 (unknownPlace (map numberOf (tasksIn s)) (chainsIn s)) none
+
+  abbrev after-tasks : Refusal
+  after-tasks = afterGap (s .gap) unknown
+
   pub counts-wrong : countsRight s ≡ false → refusal 8 0 ≡ faultOf s
   unfolding faultOf
   counts-wrong h = rw h
 
   module _ (right : countsRight s ≡ true) where
-    counted : faultAt 5 (firstFault 1 0 (tasksIn s)) (faultAt 6 (unknownPlace (map numberOf (tasksIn s)) (chainsIn s)) none) ≡ faultOf s
+    counted : faultAt 5 (firstFault 1 0 (tasksIn s)) after-tasks ≡ faultOf s
     unfolding faultOf
     counted = rw right
 
@@ -93,16 +102,23 @@ module _ (s : Schedule) where
     fault-there k (suc n) r g = refl
 
     pub task-fault : (t : ℕ) → t ≡ firstFault 1 0 (tasksIn s) → (t ≡ 0 → ⊥) → refusal 5 t ≡ faultOf s
-    task-fault t e h =
-        fault-there 5 t (faultAt 6 (unknownPlace (map numberOf (tasksIn s)) (chainsIn s)) none) h
-        ∙ ap (λ (n : ℕ). faultAt 5 n (faultAt 6 (unknownPlace (map numberOf (tasksIn s)) (chainsIn s)) none)) e ∙ counted
+    task-fault t e h = fault-there 5 t after-tasks h ∙ ap (λ (n : ℕ). faultAt 5 n after-tasks) e ∙ counted
 
     module _ (t : ℕ) (is : t ≡ firstFault 1 0 (tasksIn s)) (none-there : t ≡ 0) where
-      tasks-right : faultAt 6 (unknownPlace (map numberOf (tasksIn s)) (chainsIn s)) none ≡ faultOf s
-      tasks-right = ap (λ (n : ℕ). faultAt 5 n (faultAt 6 (unknownPlace (map numberOf (tasksIn s)) (chainsIn s)) none)) (sym none-there ∙ is) ∙ counted
+      tasks-right : after-tasks ≡ faultOf s
+      tasks-right = ap (λ (n : ℕ). faultAt 5 n after-tasks) (sym none-there ∙ is) ∙ counted
 
-      pub place-fault : (p : ℕ) → p ≡ unknownPlace (map numberOf (tasksIn s)) (chainsIn s) → (p ≡ 0 → ⊥) → refusal 6 p ≡ faultOf s
-      place-fault p e h = fault-there 6 p none h ∙ ap (λ (n : ℕ). faultAt 6 n none) e ∙ tasks-right
+      pub gap-fault : gapLimit < s .gap → refusal 5 0 ≡ faultOf s
+      unfolding afterGap
+      gap-fault h = rw (lt-leb (s .gap) gapLimit h) at tasks-right
 
-      pub all-right : (p : ℕ) → p ≡ unknownPlace (map numberOf (tasksIn s)) (chainsIn s) → p ≡ 0 → refusal 0 0 ≡ faultOf s
-      all-right p e z = ap (λ (n : ℕ). faultAt 6 n none) (sym z ∙ e) ∙ tasks-right
+      module _ (permitted : s .gap ≤ gapLimit) where
+        gap-right : unknown ≡ faultOf s
+        unfolding afterGap
+        gap-right = rw (le-leb (s .gap) gapLimit permitted) at tasks-right
+
+        pub place-fault : (p : ℕ) → p ≡ unknownPlace (map numberOf (tasksIn s)) (chainsIn s) → (p ≡ 0 → ⊥) → refusal 6 p ≡ faultOf s
+        place-fault p e h = fault-there 6 p none h ∙ ap (λ (n : ℕ). faultAt 6 n none) e ∙ gap-right
+
+        pub all-right : (p : ℕ) → p ≡ unknownPlace (map numberOf (tasksIn s)) (chainsIn s) → p ≡ 0 → refusal 0 0 ≡ faultOf s
+        all-right p e z = ap (λ (n : ℕ). faultAt 6 n none) (sym z ∙ e) ∙ gap-right

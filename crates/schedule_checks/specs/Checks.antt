@@ -1,5 +1,6 @@
 -- Order 1 of document 02: "An analysis from a schedule first checks 8 (number of chains too), 5 and 6 as in writing, chains in order, 6 with the position in its chain.
--- A chain number not in the schedule is then refused with 16". One judge of a schedule, and one choice of a chain.
+-- A chain number not in the schedule is then refused with 16". Order 5: "A call given a gap above 1,000 refuses it as 5 at place 0, after the tasks."
+-- One judge of a schedule, and one choice of a chain.
 use Prim.Native.Nat.{ℕ, zero, suc, _+_}
 use mathlib.Core.Bool.{Bool, true, false, cond, _&&_}
 use mathlib.Core.List.{List, [], _∷_, map}
@@ -7,6 +8,7 @@ use lib.Dec.{leb, eqb}
 use lib.ListN.{replicate}
 use Rattle.refusal.specs.declared.Refusal.{Refusal}
 use Rattle.refusal.specs.Refusals.{refusal, none}
+use Rattle.task.specs.Jobs.{gapLimit}
 use Rattle.chain.specs.declared.Chain.{Chain}
 use Rattle.chain.specs.Chains.{zeroTask}
 use Rattle.schedule.specs.declared.NumberedTask.{NumberedTask}
@@ -54,12 +56,17 @@ abbrev pub faultAt : ℕ → ℕ → Refusal → Refusal
 faultAt number zero r = r
 faultAt number (suc p) r = refusal number (suc p)
 
--- 8; 5, lowest task; 6, lowest position in the first chain with a fault. Number 0 at place 0 where there is none.
+-- Order 5: a gap above 1,000 is refused as 5 at place 0, or else r.
+unfoldable pub afterGap : ℕ → Refusal → Refusal
+afterGap g r = cond (leb g gapLimit) r (refusal 5 0)
+
+-- 8; 5, lowest task, and after the tasks the gap; 6, lowest position in the first chain with a fault. Number 0 at place 0 where there is none.
 unfoldable pub faultOf : Schedule → Refusal
 faultOf s =
     cond (countsRight s)
     (faultAt 5 (firstFault 1 0 (tasksIn s))
-    (faultAt 6 (unknownPlace (map numberOf (tasksIn s)) (chainsIn s)) none))
+    (afterGap (s .gap)
+    (faultAt 6 (unknownPlace (map numberOf (tasksIn s)) (chainsIn s)) none)))
     (refusal 8 0)
 
 -- Then 16, a chain number that is not in the schedule.
@@ -68,7 +75,7 @@ choiceOf s n = cond (eqb (faultOf s .number) 0) (cond (countRight n (s .chains))
 
 -- A refusal has a chain of zeros.
 abbrev pub noneChosen : Refusal → Chosen
-noneChosen r = record { refusal = r; chain = record { tasks = replicate 12 zeroTask; places = 0 } }
+noneChosen r = record { refusal = r; chain = record { tasks = replicate 12 zeroTask; places = 0; gap = 0 } }
 
 -- The chain with the number n.
 unfoldable pub chosenOf : Schedule → ℕ → Chosen

@@ -4,15 +4,16 @@ use native.Mathlib.Omega.{arith}
 use mathlib.Core.Path.{_≡_, refl}
 use mathlib.Core.Bool.{Bool, true, false, cond}
 use mathlib.Core.List.{List, [], _∷_, map}
-use lib.Dec.{eqb}
+use lib.Dec.{leb, eqb}
 use lib.ListN.{length, length-take}
 use Rattle.refusal.specs.declared.Refusal.{Refusal}
 use Rattle.refusal.specs.Refusals.{refusal, none}
+use Rattle.task.specs.Jobs.{gapLimit}
 use Rattle.schedule.specs.declared.NumberedTask.{NumberedTask}
 use Rattle.schedule.specs.declared.Route.{Route}
 use Rattle.schedule.specs.declared.Schedule.{Schedule}
 use Rattle.schedule.specs.Schedules.{numberOf, tasksIn, placesOf, routesIn, chainsIn, taskRule, known}
-use Rattle.schedule_checks.specs.Checks.{countRight, placesRight, countsRight, firstFault, firstUnknown, orElse, unknownPlace, faultAt, faultOf, choiceOf}
+use Rattle.schedule_checks.specs.Checks.{countRight, placesRight, countsRight, firstFault, firstUnknown, orElse, unknownPlace, faultAt, afterGap, faultOf, choiceOf}
 use Rattle.schedule_checks.specs.SoundSchedule.{placed-cons, counted}
 
 pub record SmallFault (r : Refusal) : Type 0 where
@@ -49,17 +50,26 @@ after-small : (k p : ℕ) (r : Refusal) → k ≤ 16 → p ≤ 100 → SmallFaul
 after-small k zero r a b h = h
 after-small k (suc p) r a b h = record { number = a; place = b }
 
+gap-small : (g : ℕ) (r : Refusal) → SmallFault r → SmallFault (afterGap g r)
+unfolding afterGap
+gap-small g r h = go (leb g gapLimit)
+  where
+    go : (b : Bool) → SmallFault (cond b r (refusal 5 0))
+    go true = h
+    go false = record { number = omega arith; place = omega arith }
+
 pub fault-small : (s : Schedule) → SmallFault (faultOf s)
 unfolding faultOf
 fault-small s = go (countsRight s) refl
   where
     go : (b : Bool) → countsRight s ≡ b
-        → SmallFault (cond b (faultAt 5 (firstFault 1 0 (tasksIn s)) (faultAt 6 (unknownPlace (map numberOf (tasksIn s)) (chainsIn s)) none)) (refusal 8 0))
+        → SmallFault (cond b (faultAt 5 (firstFault 1 0 (tasksIn s)) (afterGap (s .gap) (faultAt 6 (unknownPlace (map numberOf (tasksIn s)) (chainsIn s)) none))) (refusal 8 0))
     go false e = record { number = omega arith; place = omega arith }
     go true e =
         let k = counted s e in
         after-small 5 (firstFault 1 0 (tasksIn s)) _ (omega arith) (omega (arith, fault-low 1 0 (tasksIn s), length-take (s .count) (s .tasks), k .few))
-        (after-small 6 (unknownPlace (map numberOf (tasksIn s)) (chainsIn s)) none (omega arith) (omega (arith, place-low (map numberOf (tasksIn s)) (routesIn s) (k .placed))) (record { number = omega arith; place = omega arith }))
+        (gap-small (s .gap) _
+        (after-small 6 (unknownPlace (map numberOf (tasksIn s)) (chainsIn s)) none (omega arith) (omega (arith, place-low (map numberOf (tasksIn s)) (routesIn s) (k .placed))) (record { number = omega arith; place = omega arith })))
 
 pub choice-small : (s : Schedule) (n : ℕ) → SmallFault (choiceOf s n)
 unfolding choiceOf

@@ -9,7 +9,7 @@ use lib.ListN.{length, getD, length-map, List·getD-map}
 use lib.Seq.{getD-take, length-take-le}
 use Rattle.task.specs.Jobs.{withinLimits}
 use Rattle.task.specs.LinkLaws.{limits-hold}
-use Rattle.chain.specs.Chains.{tasksOf}
+use Rattle.chain.specs.Chains.{givenOf, tasksOf}
 use Rattle.chain.specs.Checks as checks
 use Rattle.chain.specs.Checks.{hyperVerdict, verdictOf}
 use Rattle.chain.proofs.CheckLaws.{check-hyper}
@@ -67,14 +67,14 @@ module _ (s : Schedule) (a : Arrays s) (k : SoundSchedule s) (n : ℕ) (some : 1
 
   -- it has an array of twelve tasks,
   pub sound-twelve : length (chainAt s n .tasks) ≡ 12
-  sound-twelve = chain-twelve (tasksIn s) route twelve
+  sound-twelve = chain-twelve (s .gap) (tasksIn s) route twelve
 
   -- 1 to 12 places,
   pub sound-placed : (1 ≤ route .count) × (route .count ≤ 12)
   sound-placed = rw is-there (placed-front (s .routes) (s .chains) (omega (arith, a .routes, k .few-chains)) (k .placed) (n - 1) (omega arith))
 
   pub sound-length : length (tasksOf (chainAt s n)) ≡ route .count
-  sound-length = chain-length (tasksIn s) route twelve (sound-placed .1)
+  sound-length = chain-length (s .gap) (tasksIn s) route twelve (sound-placed .1)
 
   -- each with a known number,
   sound-known : firstUnknown 1 (map numberOf (tasksIn s)) (placesOf route) ≡ 0
@@ -86,5 +86,5 @@ module _ (s : Schedule) (a : Arrays s) (k : SoundSchedule s) (n : ℕ) (some : 1
   pub sound-chain : verdictOf (chainAt s n) ≡ hyperVerdict (tasksOf (chainAt s n))
   sound-chain =
       let p = sound-placed in
-      let e = ap (checks.firstFault 1) (chain-tasks (tasksIn s) route twelve (p .1)) ∙ chain-right (tasksIn s) (placesOf route) 1 1 (omega arith) (k .tasks-right) sound-known in
-      sym (check-hyper (route .count) (tasksOf (chainAt s n)) (p .0) (p .1) (sym e))
+      let e = ap (checks.firstFault 1) (chain-tasks (s .gap) (tasksIn s) route twelve (p .1)) ∙ chain-right (tasksIn s) (placesOf route) 1 1 (omega arith) (k .tasks-right) sound-known in
+      sym (check-hyper (route .count) (s .gap) (givenOf (chainAt s n)) (p .0) (p .1) (sym e) (k .permitted))

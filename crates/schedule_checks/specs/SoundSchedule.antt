@@ -10,12 +10,13 @@ use lib.Seq.{getD-take, length-take-le}
 use borrow.Author.Tests.{leb-true, le-leb}
 use Rattle.refusal.specs.declared.Refusal.{Refusal}
 use Rattle.refusal.specs.Refusals.{refusal, none}
+use Rattle.task.specs.Jobs.{gapLimit}
 use Rattle.schedule.specs.declared.NumberedTask.{NumberedTask}
 use Rattle.schedule.specs.declared.Route.{Route}
 use Rattle.schedule.specs.declared.Schedule.{Schedule}
 use Rattle.schedule.specs.Schedules.{numberOf, tasksIn, routesIn, chainsIn, taskRule, noRoute}
 use Rattle.schedule.specs.Rule.{both}
-use Rattle.schedule_checks.specs.Checks.{countRight, placesRight, countsRight, firstFault, firstUnknown, orElse, unknownPlace, faultAt, faultOf}
+use Rattle.schedule_checks.specs.Checks.{countRight, placesRight, countsRight, firstFault, firstUnknown, orElse, unknownPlace, faultAt, afterGap, faultOf}
 
 pub record SoundSchedule (s : Schedule) : Type 0 where
   pub some : 1 ≤ s .count
@@ -24,6 +25,7 @@ pub record SoundSchedule (s : Schedule) : Type 0 where
   pub few-chains : s .chains ≤ 4
   pub placed : placesRight (routesIn s) ≡ true
   pub tasks-right : firstFault 1 0 (tasksIn s) ≡ 0
+  pub permitted : s .gap ≤ gapLimit
   pub places-known : unknownPlace (map numberOf (tasksIn s)) (chainsIn s) ≡ 0
 
 -- ---- counts
@@ -109,23 +111,32 @@ no-fault : (k p : ℕ) (r : Refusal) → 1 ≤ k → faultAt k p r .number ≡ 0
 no-fault k zero r pos h = (refl, h)
 no-fault k (suc p) r pos h = absurd (omega arith)
 
+no-gap-fault : (g : ℕ) (r : Refusal) → afterGap g r .number ≡ 0 → (g ≤ gapLimit) × (r .number ≡ 0)
+unfolding afterGap
+no-gap-fault g r = go (leb g gapLimit) refl
+  where
+    go : (b : Bool) → leb g gapLimit ≡ b → cond b r (refusal 5 0) .number ≡ 0 → (g ≤ gapLimit) × (r .number ≡ 0)
+    go true e h = (leb-true g gapLimit e, h)
+    go false e h = absurd (omega arith)
+
 module _ (s : Schedule) where
   pub sound : faultOf s .number ≡ 0 → SoundSchedule s
   unfolding faultOf
   sound = go (countsRight s) refl
     where
       go : (b : Bool) → countsRight s ≡ b
-          → cond b (faultAt 5 (firstFault 1 0 (tasksIn s)) (faultAt 6 (unknownPlace (map numberOf (tasksIn s)) (chainsIn s)) none)) (refusal 8 0) .number ≡ 0
+          → cond b (faultAt 5 (firstFault 1 0 (tasksIn s)) (afterGap (s .gap) (faultAt 6 (unknownPlace (map numberOf (tasksIn s)) (chainsIn s)) none))) (refusal 8 0) .number ≡ 0
           → SoundSchedule s
       go false e h = absurd (omega arith)
       go true e h =
           let k = counted s e in
           let t = no-fault 5 (firstFault 1 0 (tasksIn s)) _ (omega arith) h in
-          let u = no-fault 6 (unknownPlace (map numberOf (tasksIn s)) (chainsIn s)) _ (omega arith) (t .1) in
-          record { some = k .some; few = k .few; chained = k .chained; few-chains = k .few-chains; placed = k .placed; tasks-right = t .0; places-known = u .0 }
+          let g = no-gap-fault (s .gap) _ (t .1) in
+          let u = no-fault 6 (unknownPlace (map numberOf (tasksIn s)) (chainsIn s)) _ (omega arith) (g .1) in
+          record { some = k .some; few = k .few; chained = k .chained; few-chains = k .few-chains; placed = k .placed; tasks-right = t .0; permitted = g .0; places-known = u .0 }
 
   -- What is so is found sound: number 0 at place 0.
   pub no-refusal : SoundSchedule s → faultOf s ≡ none
-  unfolding faultOf countsRight
+  unfolding faultOf countsRight afterGap
   no-refusal k =
-      rw (right-count (s .count) 32 (k .some) (k .few), right-count (s .chains) 4 (k .chained) (k .few-chains), k .placed, k .tasks-right, k .places-known)
+      rw (right-count (s .count) 32 (k .some) (k .few), right-count (s .chains) 4 (k .chained) (k .few-chains), k .placed, k .tasks-right, le-leb (s .gap) gapLimit (k .permitted), k .places-known)

@@ -129,7 +129,7 @@ fn refused(number: u64, place: usize) -> Refusal
     Refusal { number, place }
 }
 
-// What a schedule is refused for: 8, 5, 6; number 0 at place 0 where it is sound.
+// What a schedule is refused for: 8; 5, of the gap after the tasks; 6; number 0 at place 0 where it is sound.
 pub fn fault_of(s: Schedule) -> Refusal
     ensures { λ r. ⌜ r ≡ faultOf s ⌝ }
 {
@@ -140,6 +140,9 @@ pub fn fault_of(s: Schedule) -> Refusal
         let t = first_fault(tasks, count);
         if t != 0 {
             return refused(5, t);
+        }
+        if 1000 < s.gap {
+            return refused(5, 0);
         }
         let numbers = schedule::numbers_of(tasks);
         let p = unknown_place(routes, s.chains, &numbers, count);
@@ -167,6 +170,7 @@ fn none_chosen(r: Refusal) -> Chosen
         chain: Chain {
             tasks: [zero; 12],
             places: 0,
+            gap: 0,
         },
     }
 }

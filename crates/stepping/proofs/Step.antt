@@ -4,7 +4,7 @@ use native.Mathlib.Omega.{arith}
 use mathlib.Core.Path.{_≡_, _∙_}
 use mathlib.Core.List.{List}
 use lib.ListN.{length, set, length-set}
-use Rattle.task.specs.declared.Task.{Task}
+use Rattle.task.specs.declared.Place.{Place}
 use Rattle.task.specs.LinkLaws.{read-mono}
 use Rattle.chain.specs.Chains.{at}
 use Rattle.partition.specs.declared.Partition.{Partition}
@@ -15,7 +15,7 @@ use Rattle.stepping.specs.Went.{Went, Ready}
 use Rattle.stepping.specs.Standing.{Standing, Stands, cut-in, Steps, Stepped}
 use Rattle.stepping.specs.Onward.{back-self, back-ready, on-ready, stands-on}
 
-module _ (l : List Task) (n p : ℕ) (r s : List ℕ) (k : Steps l n p r s) where
+module _ (l : List Place) (n p : ℕ) (r s : List ℕ) (k : Steps l n p r s) where
   pub job-fits-on : jobAt s p + 1 ≤ 1000000000000
   job-fits-on = omega (arith, job-fits l (k .at-job .sound) p (cut-in l n p s (k .at-job)) (jobAt s p + 1 + 1), k .top)
 

@@ -13,7 +13,7 @@ use mathlib.Core.List.{List}
 use lib.Dec.{leb, eqb}
 use lib.ListN.{length}
 use borrow.Author.Tests.{le-leb, lt-leb, eq-eqb, ne-eqb}
-use Rattle.task.specs.declared.Task.{Task}
+use Rattle.task.specs.declared.Place.{Place}
 use Rattle.task.specs.declared.Latest.the-variants.{Of}
 use Rattle.task.specs.Jobs.{readOf}
 use Rattle.task.specs.LinkLaws.{AtLeast}
@@ -34,7 +34,7 @@ use Rattle.stepping.specs.Onward.{back-self}
 use Rattle.stepping.specs.Ways.{found-is, between, warm-between, back-is, on-late}
 
 -- The job of place i that stands in the state at job m of the cut: on the way back up to the cut, on the way on after it.
-unfoldable pub placeJob : List Task → ℕ → ℕ → ℕ → ℕ
+unfoldable pub placeJob : List Place → ℕ → ℕ → ℕ → ℕ
 placeJob l p m i = cond (leb i p) (backJob l p m i) (onJob l p m i)
 
 -- How often f changes over the n steps from m on.
@@ -59,7 +59,7 @@ unfolding movesIn
 moves-same f g a b zero e = refl
 moves-same f g a b (suc n) e = rw (moves-same f g a b n (λ k u. e k (omega arith)), e (suc n) (omega arith), e n (omega arith))
 
-module _ (l : List Task) (ok : Sound l) (p : ℕ) (h : p < length l) where
+module _ (l : List Place) (ok : Sound l) (p : ℕ) (h : p < length l) where
   repeats : (i q : ℕ) → i ≤ q → q < length l → Repeats (hyperOf l) l (i + (q - i))
   repeats i q u v x g = hyper-repeats l ok q v x (omega arith)
 

@@ -7,15 +7,15 @@ use mathlib.Core.Path.{_≡_, sym, ap, _∙_}
 use mathlib.Core.List.{List}
 use lib.ListN.{length, getD, set, length-set}
 use lib.Seq.{getD-set-same, getD-set-other}
-use Rattle.task.specs.declared.Task.{Task}
-use Rattle.task.specs.Jobs.{readOf, writeOf}
+use Rattle.task.specs.declared.Place.{Place}
+use Rattle.task.specs.Jobs.{readOf, writeOf, readableOf}
 use Rattle.task.specs.LinkLaws.{job-small}
 use Rattle.chain.specs.Chains.{at, forwardBy, backwardBy}
 use Rattle.chain.specs.Checks.{Sound}
 use Rattle.chain.specs.Ranges.{forward-fits, backward-fits}
 use Rattle.timing.specs.WarmUp.{warmAt}
 use Rattle.stepping.specs.OnePlace.{periodAt, jobAt, restAt, moves-on}
-use Rattle.stepping.specs.Went.{gone, gone-cut, other-ticks, Goes, Went, Place, Ready}
+use Rattle.stepping.specs.Went.{gone, gone-cut, other-ticks, Goes, Went, PlaceReady, Ready}
 use Rattle.stepping.specs.Standing.{backJob, onJob, backTicks, onTicks, Standing, Reciprocals}
 use Rattle.stepping.specs.Ways.{back-is, back-quotient, on-quotient}
 
@@ -31,11 +31,11 @@ goes-on r p old new c i N N′ T pos e g j q up =
     (m .0 ∙ sym a, m .1 ∙ sym b)
 
 -- so many ticks later
-read-later : (a : Task) (j j′ w d : ℕ) → j′ * a .period ≡ j * a .period + d → w ≤ readOf a j → readOf a j′ - w ≡ readOf a j - w + d
+read-later : (a : Place) (j j′ w d : ℕ) → j′ * a .period ≡ j * a .period + d → w ≤ readOf a j → readOf a j′ - w ≡ readOf a j - w + d
 read-later a j j′ w d e h = omega arith
 
-write-later : (a : Task) (j j′ w t d : ℕ) → j′ * a .period ≡ j * a .period + d → w ≤ writeOf a j → writeOf a j′ - w + t ≡ writeOf a j - w + t + d
-write-later a j j′ w t d e h = omega arith
+readable-later : (a : Place) (j j′ w t d : ℕ) → j′ * a .period ≡ j * a .period + d → w ≤ readableOf a j → readableOf a j′ - w + t ≡ readableOf a j - w + t + d
+readable-later a j j′ w t d e h = omega arith
 
 -- a place went on by the ticks of the jobs that it gained
 gone-jobs : (r : List ℕ) (p : ℕ) (old new : List ℕ) (c i T : ℕ) → (i ≡ p → ⊥) → periodAt r i ≡ T → Goes r p old new c i → jobAt new i * T ≡ jobAt old i * T + gone r p old new i
@@ -44,17 +44,17 @@ gone-jobs r p old new c i T apart e g =
     let a : jobAt new i ≡ jobAt old i + k = omega (arith, g .job) in
     rw (other-ticks r p i apart, e) (omega (arith, ap (λ (x : ℕ). x * T) a, add-mul (jobAt old i) k T))
 
-pub back-self : (l : List Task) (p m : ℕ) → backJob l p m p ≡ m
+pub back-self : (l : List Place) (p m : ℕ) → backJob l p m p ≡ m
 unfolding backwardBy
 back-self l p m = let a : p - p ≡ 0 = omega arith in rw a
 
-pub on-self : (l : List Task) (p m : ℕ) → onJob l p m p ≡ m + 1
+pub on-self : (l : List Place) (p m : ℕ) → onJob l p m p ≡ m + 1
 unfolding forwardBy
 on-self l p m = let a : p - p ≡ 0 = omega arith in rw a
 
 -- ---- all places: first the cut, then those before it, then those after it
 
-module _ (l : List Task) (ok : Sound l) (p : ℕ) (h : p < length l) (m : ℕ) (g : warmAt l p ≤ m) (r : List ℕ) (rs : Reciprocals l r) (old : List ℕ) (st : Standing l p m old) (cutJob : ℕ) where
+module _ (l : List Place) (ok : Sound l) (p : ℕ) (h : p < length l) (m : ℕ) (g : warmAt l p ≤ m) (r : List ℕ) (rs : Reciprocals l r) (old : List ℕ) (st : Standing l p m old) (cutJob : ℕ) where
   -- the places beside the cut move on whatever job is put there
   abbrev pub cutMoved : List ℕ
   cutMoved = set old (2 * p) cutJob
@@ -79,7 +79,7 @@ module _ (l : List Task) (ok : Sound l) (p : ℕ) (h : p < length l) (m : ℕ) (
   cut-small : periodAt r p ≤ 1000000
   cut-small = omega (arith, rs .all .period p h, ok .each p h .period-max)
 
-  place-small : (state : List ℕ) (i N : ℕ) → i < length l → restAt state i ≡ N % at l i .period → jobAt state i ≤ 2000000000000 → Place r state i
+  place-small : (state : List ℕ) (i N : ℕ) → i < length l → restAt state i ≡ N % at l i .period → jobAt state i ≤ 2000000000000 → PlaceReady r state i
   place-small state i N v q j = record {
     reciprocal = rs .all .each i v;
     rest = omega (arith, q, mod-lt N {m = at l i .period} (ok .each i v .period-pos), ok .each i v .period-max);
@@ -115,7 +115,7 @@ module _ (l : List Task) (ok : Sound l) (p : ℕ) (h : p < length l) (m : ℕ) (
         let a = back-quotient l ok p h m g i u in
         let b = back-quotient l ok p h (m + 1) later i u in
         let n : backTicks l p (m + 1) i ≡ backTicks l p m i + gone r p cutMoved s (i + 1)
-        = read-later (at l (i + 1)) (backJob l p m (i + 1)) (backJob l p (m + 1) (i + 1)) (writeOf (at l i) 0) (gone r p cutMoved s (i + 1)) ih (a .0) in
+        = read-later (at l (i + 1)) (backJob l p m (i + 1)) (backJob l p (m + 1) (i + 1)) (readableOf (at l i) 0) (gone r p cutMoved s (i + 1)) ih (a .0) in
         let q =
         goes-on r p cutMoved s (i + 1) i (backTicks l p m i) (backTicks l p (m + 1) i) (at l i .period) (ok .each i (omega arith) .period-pos) (rs .all .period i (omega arith)) (back .each i (omega arith) u)
         (other (2 * i) (λ z. omega arith) ∙ st .all .back-jobs i (omega arith) (omega arith) ∙ a .1) (other (2 * i + 1) (λ z. omega arith) ∙ st .all .back-rests i (omega arith) u) n in
@@ -156,9 +156,9 @@ module _ (l : List Task) (ok : Sound l) (p : ℕ) (h : p < length l) (m : ℕ) (
       each = λ i a b. go i (i - 1) (omega arith) a b;
     }
       where
-        go : (i c : ℕ) → i ≡ c + 1 → p + 1 ≤ i → i < length l → Place r s i
+        go : (i c : ℕ) → i ≡ c + 1 → p + 1 ≤ i → i < length l → PlaceReady r s i
         go i c e a b =
-            let f : Place r s (c + 1) = place-small s (c + 1) (onTicks l p m c) (omega arith) (stood-rest c (omega arith) (omega arith)) (omega (arith, stood-job c (omega arith) (omega arith), on-fits top (c + 1) (omega arith) (omega arith))) in
+            let f : PlaceReady r s (c + 1) = place-small s (c + 1) (onTicks l p m c) (omega arith) (stood-rest c (omega arith) (omega arith)) (omega (arith, stood-job c (omega arith) (omega arith), on-fits top (c + 1) (omega arith) (omega arith))) in
             rw e f
 
     module _ (new : List ℕ) (on : Went r p (λ x. x - 1) (p + 1) (length l) s new) where
@@ -172,7 +172,7 @@ module _ (l : List Task) (ok : Sound l) (p : ℕ) (h : p < length l) (m : ℕ) (
           let a = on-quotient l ok p h m g c u v in
           let b = on-quotient l ok p h (m + 1) later c u v in
           let n : onTicks l p (m + 1) c ≡ onTicks l p m c + gone r p s new c
-          = write-later (at l c) (onJob l p m c) (onJob l p (m + 1) c) (at l (c + 1) .phase) (at l (c + 1) .period - 1) (gone r p s new c) ih (a .0) in
+          = readable-later (at l c) (onJob l p m c) (onJob l p (m + 1) c) (at l (c + 1) .phase) (at l (c + 1) .period - 1) (gone r p s new c) ih (a .0) in
           let q =
           goes-on r p s new c (c + 1) (onTicks l p m c) (onTicks l p (m + 1) c) (at l (c + 1) .period) (ok .each (c + 1) v .period-pos) (rs .all .period (c + 1) v) (on-goes c u v) (stood-job c u v ∙ a .1) (stood-rest c u v) n in
           (b .1 ∙ q .0, q .1)

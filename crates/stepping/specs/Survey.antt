@@ -2,8 +2,8 @@
 use Prim.Native.Nat.{ℕ, _+_, _-_, _/_}
 use mathlib.Core.Path.{_≡_, refl}
 use mathlib.Core.List.{List, [], _∷_, _++_, map}
-use Rattle.task.specs.declared.Task.{Task}
-use Rattle.task.specs.Links.{earliestFrom, latestBy, forwardLink, backwardLink}
+use Rattle.task.specs.declared.Place.{Place}
+use Rattle.task.specs.Links.{earliestFrom, latestOver, forwardLink, backwardLink}
 use Rattle.chain.specs.Chains.{at, forwardBy, onLatest, backwardBy}
 use Rattle.ranges.specs.Least.{leastFrom}
 use Rattle.timing.specs.WarmUp.{warmLast, warmAt}
@@ -11,24 +11,24 @@ use Rattle.partition.specs.Lists.{rangeFrom}
 use Rattle.partition.specs.Partitions.{startOf, endOf}
 use Rattle.stepping.specs.Moves.{placeJob, movesIn}
 
-abbrev task : ℕ → ℕ → ℕ → Task
-task t d f = record { period = t; duration = d; phase = f }
+abbrev task : ℕ → ℕ → ℕ → Place
+task t d f = record { period = t; duration = d; phase = f; gap = 0 }
 
-abbrev X : List Task
+abbrev X : List Place
 X = task 3 2 1 ∷ task 7 5 2 ∷ task 4 4 0 ∷ []
 
-abbrev Y : List Task
+abbrev Y : List Place
 Y = task 10 25 0 ∷ task 4 9 3 ∷ task 6 30 1 ∷ []
 
 -- At job m of the second place: the jobs of the three places, the start and the end.
-abbrev state : List Task → ℕ → List ℕ
+abbrev state : List Place → ℕ → List ℕ
 state l m = map (placeJob l 1 m) (0 ∷ 1 ∷ 2 ∷ []) ++ (startOf l 1 m ∷ endOf l 1 m ∷ [])
 
 -- Over the hyperperiod h, cut at p: how many jobs each place gains, and how often its job moves.
-abbrev gained : List Task → ℕ → ℕ → List ℕ
+abbrev gained : List Place → ℕ → ℕ → List ℕ
 gained l h p = map (λ i. placeJob l p (warmAt l p + h / at l p .period) i - placeJob l p (warmAt l p) i) (0 ∷ 1 ∷ 2 ∷ [])
 
-abbrev moves : List Task → ℕ → ℕ → List ℕ
+abbrev moves : List Place → ℕ → ℕ → List ℕ
 moves l h p = map (λ i. movesIn (λ m. placeJob l p m i) (warmAt l p) (h / at l p .period)) (0 ∷ 1 ∷ 2 ∷ [])
 
 unfoldable pub computed : List (List ℕ)
@@ -66,5 +66,5 @@ said =
     ∷ []
 
 pub survey : computed ≡ said
-unfolding computed earliestFrom latestBy forwardLink backwardLink forwardBy onLatest backwardBy leastFrom warmLast warmAt startOf endOf placeJob movesIn rangeFrom
+unfolding computed earliestFrom latestOver forwardLink backwardLink forwardBy onLatest backwardBy leastFrom warmLast warmAt startOf endOf placeJob movesIn rangeFrom
 survey = refl

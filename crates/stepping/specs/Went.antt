@@ -42,7 +42,7 @@ pub record Went (r : List ℕ) (p : ℕ) (c : ℕ → ℕ) (a b : ℕ) (old new 
   pub high : (x : ℕ) → 2 * b ≤ x → getD new x 0 ≡ getD old x 0
 
 -- What the constants and the state of a place are for its move to stay in range.
-pub record Place (r state : List ℕ) (i : ℕ) : Type 0 where
+pub record PlaceReady (r state : List ℕ) (i : ℕ) : Type 0 where
   pub reciprocal : Reciprocal (periodAt r i) (factorAt r i) (shiftAt r i)
   pub rest : restAt state i < 1000000
   pub job : jobAt state i ≤ 2000000000000
@@ -55,7 +55,7 @@ pub record Ready (r : List ℕ) (p : ℕ) (state : List ℕ) (a b : ℕ) : Type 
   pub cut-small : periodAt r p ≤ 1000000
   pub constants-long : 3 * b ≤ length r
   pub state-long : 2 * b ≤ length state
-  pub each : (i : ℕ) → a ≤ i → i < b → Place r state i
+  pub each : (i : ℕ) → a ≤ i → i < b → PlaceReady r state i
 
 -- nothing moved yet
 pub went-none : (r : List ℕ) (p : ℕ) (c : ℕ → ℕ) (a b : ℕ) (s : List ℕ) → b ≤ a → Went r p c a b s s
@@ -117,7 +117,7 @@ module _ (r : List ℕ) (p : ℕ) (c : ℕ → ℕ) (old mid new : List ℕ) (i 
 -- ---- ranges
 
 -- there is room for the move: a rest is below 1,000,000, and no more than twelve periods come together; s has the place's entries as they were
-pub roomy : (r s state : List ℕ) (i ticks : ℕ) → Place r state i → ticks ≤ 12000000 → i < 12 → 3 * i + 3 ≤ length r → 2 * i + 2 ≤ length s → jobAt s i ≡ jobAt state i → restAt s i ≡ restAt state i → Roomy r s i ticks
+pub roomy : (r s state : List ℕ) (i ticks : ℕ) → PlaceReady r state i → ticks ≤ 12000000 → i < 12 → 3 * i + 3 ≤ length r → 2 * i + 2 ≤ length s → jobAt s i ≡ jobAt state i → restAt s i ≡ restAt state i → Roomy r s i ticks
 roomy r s state i ticks pl bound few cl sl j q = record {
   few = few;
   constants-long = cl;
@@ -128,5 +128,5 @@ roomy r s state i ticks pl bound few cl sl j q = record {
 }
 
 -- a place goes on by at most its rest and what its neighbour went on by
-pub next-bound : (r s state : List ℕ) (i ticks top : ℕ) → Place r state i → ticks ≤ top → (new : List ℕ) (moved : ℕ) → Advanced r i ticks s new moved → restAt s i ≡ restAt state i → moved ≤ top + 1000000
+pub next-bound : (r s state : List ℕ) (i ticks top : ℕ) → PlaceReady r state i → ticks ≤ top → (new : List ℕ) (moved : ℕ) → Advanced r i ticks s new moved → restAt s i ≡ restAt state i → moved ≤ top + 1000000
 next-bound r s state i ticks top pl bound new moved ad q = omega (arith, pl .rest, ad .is, div-mul-le-self (restAt s i + ticks) (periodAt r i))

@@ -2,7 +2,7 @@
 // `reciprocals` has three numbers for each place, its period, and the factor and the shift that were made for it once; `state` has two, its job and its rest.
 use partition::Partition;
 use task::Job;
-use task::Task;
+use task::Place;
 use task::Tick;
 ghost use mathlib.Core.Path.{_≡_};
 ghost use Prim.Native.Nat.{_+_, _-_, _≤_, _<_};
@@ -67,14 +67,14 @@ fn end_job(n: usize, p: usize, here: u64, last: u64) -> u64
 }
 
 // The partition of the job at which the state stands.
-pub fn here(tasks: &[u64], n: usize, p: usize, state: &[u64]) -> Partition
-    requires { ⌜ Stands (tasksIn (now tasks)) n p (now state) ⌝ }
-    ensures { λ r. ⌜ IsPartition (tasksIn (now (tasks .entry))) p (jobAt (now (state .entry)) p) r ⌝ }
+pub fn here(tasks: &[u64], gap: u64, n: usize, p: usize, state: &[u64]) -> Partition
+    requires { ⌜ Stands (tasksIn gap (now tasks)) n p (now state) ⌝ }
+    ensures { λ r. ⌜ IsPartition (tasksIn gap (now (tasks .entry))) p (jobAt (now (state .entry)) p) r ⌝ }
 {
     let m = state[2 * p];
-    let first = chain::task_at(tasks, 0);
+    let first = chain::task_at(tasks, gap, 0);
     let start = first.read(Job(state[0]));
-    let last = chain::task_at(tasks, n - 1);
+    let last = chain::task_at(tasks, gap, n - 1);
     let end = last.write(Job(end_job(n, p, m, state[2 * n - 2])));
     Partition {
         job: Job(m),
@@ -84,13 +84,20 @@ pub fn here(tasks: &[u64], n: usize, p: usize, state: &[u64]) -> Partition
 }
 
 // From the state at a job of place p to that at the next job, and the next job's partition. `tasks` is the flat list of the chain's n tasks.
-pub fn next(tasks: &[u64], n: usize, p: usize, reciprocals: &[u64], state: &mut [u64]) -> Partition
-    requires { ⌜ Steps (tasksIn (now tasks)) n p (now reciprocals) (now state) ⌝ }
-    ensures { λ r. ⌜ Stepped (tasksIn (now (tasks .entry))) p (now (state .entry)) (now (state .exit)) r ⌝ }
+pub fn next(
+    tasks: &[u64],
+    gap: u64,
+    n: usize,
+    p: usize,
+    reciprocals: &[u64],
+    state: &mut [u64],
+) -> Partition
+    requires { ⌜ Steps (tasksIn gap (now tasks)) n p (now reciprocals) (now state) ⌝ }
+    ensures { λ r. ⌜ Stepped (tasksIn gap (now (tasks .entry))) p (now (state .entry)) (now (state .exit)) r ⌝ }
 {
     let k = 2 * p;
     state[k] += 1;
     step_back(reciprocals, p, state);
     step_on(reciprocals, n, p, state);
-    here(tasks, n, p, state)
+    here(tasks, gap, n, p, state)
 }

@@ -1,4 +1,4 @@
--- Document 01, "Survey examples": A1 to A8, B, C, D and E, and the example of order 2 of document 02, as one computed list with one conclusion. Every row
+-- Document 01, "Survey examples": A1 to A8, B, C, D and E, and the examples of orders 2 and 5 of document 02, as one computed list with one conclusion. Every row
 -- is computed from the definitions that the calls' contracts cite; a call's answer is turned into plain numbers: of a refusal its number and its place, of a
 -- success 0 and its values.
 use Prim.Native.Nat.{ℕ, _+_, _-_}
@@ -8,14 +8,14 @@ use lib.ListN.{length, take, replicate}
 use Rattle.task.specs.declared.Task.{Task}
 use Rattle.task.specs.declared.Job.{Job}
 use Rattle.task.specs.Jobs.{withinLimits}
-use Rattle.task.specs.Links.{earliestFrom, latestBy, forwardLink, backwardLink}
+use Rattle.task.specs.Links.{earliestFrom, latestOver, forwardLink, backwardLink}
 use Rattle.euclid.specs.Divisor.{euclid, gcdOf, lcmOf}
 use Rattle.chain.specs.declared.Chain.{Chain}
 use Rattle.chain.specs.declared.Verdict.{Verdict}
 use Rattle.chain.specs.declared.Verdict.the-variants as verdict
 use Rattle.chain.specs.Chains.{tasksOf, zeroTask, forwardBy, onLatest, backwardBy}
 use Rattle.chain.specs.Hyperperiod.{hyperFrom}
-use Rattle.chain.specs.Checks.{firstFault, hyperVerdict, verdictFor, verdictOf}
+use Rattle.chain.specs.Checks.{firstFault, hyperVerdict, afterGap, verdictFor, verdictOf}
 use Rattle.timing.specs.declared.WarmUp.{WarmUp}
 use Rattle.timing.specs.declared.Span.{Span}
 use Rattle.timing.specs.declared.Span.the-variants as span
@@ -56,7 +56,7 @@ task t d f = record { period = t; duration = d; phase = f }
 
 -- A chain of so many places has room for twelve tasks; entries past its places are no part of it.
 abbrev chainWith : List Task → ℕ → Chain
-chainWith l n = record { tasks = l ++ replicate (12 - length l) zeroTask; places = n }
+chainWith l n = record { tasks = l ++ replicate (12 - length l) zeroTask; places = n; gap = 0 }
 
 abbrev chainOf : List Task → Chain
 chainOf l = chainWith l (length l)
@@ -69,6 +69,10 @@ B = chainOf (task 10 3 5 ∷ [])
 
 abbrev C : Chain
 C = chainOf (task 5 5 0 ∷ task 5 5 0 ∷ [])
+
+-- The same chain with a gap.
+abbrev gapped : ℕ → Chain → Chain
+gapped g c = record { tasks = c .tasks; places = c .places; gap = g }
 
 abbrev D : Chain
 D = chainOf (task 10 2 0 ∷ task 10 1 95 ∷ [])
@@ -168,6 +172,9 @@ computed =
     ∷ starts B 1 ∷ latencies B 1 ∷ ticksOf (delayOf B 4)
     -- C, cut at 1 and at 2
     ∷ starts C 1 ∷ latencies C 1 ∷ starts C 2 ∷ latencies C 2
+    -- order 5 of document 02: C with gap 1, cut at 1 and at 2; with the greatest gap; and a gap above it
+    ∷ starts (gapped 1 C) 1 ∷ latencies (gapped 1 C) 1 ∷ starts (gapped 1 C) 2 ∷ latencies (gapped 1 C) 2
+    ∷ warm (gapped 1 C) ∷ warm (gapped 1000 C) ∷ verdictIs (verdictOf (gapped 1001 C))
     -- D
     ∷ warm D ∷ ticksOf (delayOf D 90) ∷ ticksOf (delayOf D 89)
     -- E: no place, 13 places, H at its limit and above
@@ -175,7 +182,7 @@ computed =
     ∷ verdictIs (verdictOf (E 768)) ∷ verdictIs (verdictOf (E 769))
     ∷ []
 
--- What the documents say, in the same order.
+-- What the documents say, in the same order; the warm-ups of chain C with a gap follow from order 5, which does not name them.
 abbrev pub said : List (List ℕ)
 said =
     (0 ∷ 12 ∷ 0 ∷ 0 ∷ 1 ∷ [])
@@ -193,11 +200,13 @@ said =
     ∷ (0 ∷ 2 ∷ 1 ∷ []) ∷ (2 ∷ 2 ∷ 2 ∷ [])
     ∷ (5 ∷ []) ∷ (13 ∷ []) ∷ (12 ∷ 0 ∷ [])
     ∷ (0 ∷ []) ∷ (15 ∷ []) ∷ (0 ∷ []) ∷ (15 ∷ [])
+    ∷ (0 ∷ []) ∷ (20 ∷ []) ∷ (0 ∷ []) ∷ (20 ∷ [])
+    ∷ (0 ∷ 5 ∷ 0 ∷ 0 ∷ 2 ∷ []) ∷ (0 ∷ 5 ∷ 0 ∷ 0 ∷ 201 ∷ []) ∷ (5 ∷ 0 ∷ [])
     ∷ (0 ∷ 10 ∷ 90 ∷ 9 ∷ 0 ∷ []) ∷ (0 ∷ 16 ∷ []) ∷ (12 ∷ 0 ∷ [])
     ∷ (8 ∷ 0 ∷ []) ∷ (8 ∷ 0 ∷ [])
     ∷ (0 ∷ 60000000 ∷ []) ∷ (7 ∷ 0 ∷ [])
     ∷ []
 
 pub survey : computed ≡ said
-unfolding computed withinLimits earliestFrom latestBy forwardLink backwardLink euclid gcdOf lcmOf forwardBy onLatest backwardBy hyperFrom firstFault hyperVerdict verdictFor leastFrom warmLast warmAt warmTick delayAt firstAged ageAt entries warmUpAfter spanAfter anchors spaced wellFormed read.reading read.delayAt read.lastAt greatest lowTo low total everyAbove longestRun ticks delaySum doubledArea exceedance greatestOf lowOf meanOf exceedanceOf rangeFrom keep fresh dropRepeats startOf endOf keeps anchorsFrom judged madeAfter writtenAfter spanOf misses missesIn largest mostMisses earliestJob windowsAfter
+unfolding computed withinLimits earliestFrom latestOver forwardLink backwardLink euclid gcdOf lcmOf forwardBy onLatest backwardBy hyperFrom firstFault hyperVerdict afterGap verdictFor leastFrom warmLast warmAt warmTick delayAt firstAged ageAt entries warmUpAfter spanAfter anchors spaced wellFormed read.reading read.delayAt read.lastAt greatest lowTo low total everyAbove longestRun ticks delaySum doubledArea exceedance greatestOf lowOf meanOf exceedanceOf rangeFrom keep fresh dropRepeats startOf endOf keeps anchorsFrom judged madeAfter writtenAfter spanOf misses missesIn largest mostMisses earliestJob windowsAfter
 survey = refl

@@ -1,4 +1,4 @@
--- Document 01, "Reading a table": when a table is well-formed. `wellFormed` computes it, `WellFormed` says it at length;
+-- Document 01, "Reading a table", with order 5 of document 02: when a table is well-formed. `wellFormed` computes it, `WellFormed` says it at length;
 -- that the two agree is `well-formed-iff` in BothWays.
 use mathlib.Core.Path.{_≡_}
 use mathlib.Core.Bool.{Bool, true, false, cond}
@@ -12,8 +12,9 @@ use Rattle.table.specs.Anchors.{Anchor, anchors, firstStart, next}
 abbrev pub hyperLimit : ℕ
 hyperLimit = 60000000
 
+-- Order 5: a well-formed latency may reach 60,011,000, in every table.
 abbrev pub latencyLimit : ℕ
-latencyLimit = 60000000
+latencyLimit = 60011000
 
 abbrev pub firstStartLimit : ℕ
 firstStartLimit = 1000000000
@@ -23,7 +24,7 @@ abbrev pub _and_ : Bool → Bool → Bool
 true and b = b
 false and b = false
 
--- An anchor stands before the next start; its latency is at most 60,000,000 and greater than the distance to the next start.
+-- An anchor stands before the next start; its latency is at most 60,011,000 and greater than the distance to the next start.
 abbrev pub fitting : ℕ → ℕ → ℕ → Bool
 fitting start next latency = ltb start next and leb latency latencyLimit and ltb (next - start) latency
 
@@ -47,7 +48,7 @@ wellFormed starts latencies g H =
 abbrev pub nextStart : List ℕ → ℕ → ℕ → ℕ → ℕ
 nextStart starts g limit i = cond (ltb (i + 1) g) (getD starts (i + 1) 0) limit
 
--- Well-formed, as document 01 says it. Places count from 0.
+-- Well-formed, as the documents say it. Places count from 0.
 pub record WellFormed (starts latencies : List ℕ) (g H : ℕ) : Type 0 where
   pub some : 1 ≤ g
   pub fits : g ≤ length starts

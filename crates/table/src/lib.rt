@@ -10,7 +10,7 @@ ghost use Rattle.table.specs.Delays.{LastStart};
 
 const HYPER_LIMIT: u64 = 60000000;
 
-const LATENCY_LIMIT: u64 = 60000000;
+const LATENCY_LIMIT: u64 = 60011000;
 
 const FIRST_START_LIMIT: u64 = 1000000000;
 

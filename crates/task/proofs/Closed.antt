@@ -5,12 +5,13 @@ use native.Mathlib.Nat.{add-div-right, div-eq-of-lt}
 use mathlib.Core.Path.{_≡_, sym, ap, _∙_}
 use borrow.Author.Tests.{le-leb, lt-leb}
 use Rattle.task.specs.declared.Task.{Task}
+use Rattle.task.specs.declared.Place.{Place}
 use Rattle.task.specs.declared.Latest.the-variants.{Of, Nothing}
 use lib.Dec.{leb}
-use Rattle.task.specs.Jobs.{writeOf, withinLimits}
-use Rattle.task.specs.Links.{earliestFrom, latestBy}
+use Rattle.task.specs.Jobs.{withinLimits}
+use Rattle.task.specs.Links.{earliestFrom, latestOver}
 
-module _ (a : Task) (pos : 1 ≤ a .period) where
+module _ (a : Place) (pos : 1 ≤ a .period) where
   pub earliest-zero : (w : ℕ) → w ≤ a .phase → 0 ≡ earliestFrom a w
   unfolding earliestFrom
   earliest-zero w h = sym (div-eq-of-lt (omega arith))
@@ -21,15 +22,15 @@ module _ (a : Task) (pos : 1 ≤ a .period) where
       let s : w - a .phase + (a .period - 1) ≡ n + a .period = omega arith in
       sym (ap (λ (x : ℕ). x / a .period) s ∙ add-div-right n pos)
 
-pub latest-none : (a : Task) (z : ℕ) → z < a .phase + a .duration → Nothing ≡ latestBy a z
-unfolding latestBy
-latest-none a z h = rw (lt-leb (writeOf a 0) z (omega arith))
+pub latest-none : (a : Place) (d z : ℕ) → z < a .phase + d → Nothing ≡ latestOver a d z
+unfolding latestOver
+latest-none a d z h = rw (lt-leb (a .phase + d) z h)
 
-pub latest-some : (a : Task) (z n : ℕ) → a .phase + a .duration ≤ z → n ≡ z - a .phase - a .duration → Of (record { 0 = n / a .period }) ≡ latestBy a z
-unfolding latestBy
-latest-some a z n h e =
-    let s : n ≡ z - writeOf a 0 = omega arith in
-    rw (le-leb (writeOf a 0) z (omega arith), s)
+pub latest-some : (a : Place) (d z n : ℕ) → a .phase + d ≤ z → n ≡ z - a .phase - d → Of (record { 0 = n / a .period }) ≡ latestOver a d z
+unfolding latestOver
+latest-some a d z n h e =
+    let s : n ≡ z - (a .phase + d) = omega arith in
+    rw (le-leb (a .phase + d) z h, s)
 
 -- past the other four tests only the phase is left
 pub phase-left : (a : Task) → 1 ≤ a .period → a .period ≤ 1000000 → 1 ≤ a .duration → a .duration ≤ 4000000 → leb (a .phase) 1000000 ≡ withinLimits a

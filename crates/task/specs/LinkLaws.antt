@@ -10,11 +10,12 @@ use mathlib.Core.Bool.{Bool, true, false, cond, _&&_}
 use lib.Dec.{leb}
 use borrow.Author.Tests.{leb-true, leb-false, le-leb}
 use Rattle.task.specs.declared.Task.{Task}
+use Rattle.task.specs.declared.Place.{Place}
 use Rattle.task.specs.declared.Job.{Job}
 use Rattle.task.specs.declared.Latest.{Latest}
 use Rattle.task.specs.declared.Latest.the-variants.{Of, Nothing}
-use Rattle.task.specs.Jobs.{readOf, writeOf, withinLimits, Within}
-use Rattle.task.specs.Links.{Linked, earliestFrom, earliestAfter, latestBy, forwardLink, backwardLink}
+use Rattle.task.specs.Jobs.{placeOf, readOf, writeOf, readableOf, withinLimits, Within, gapLimit, Limited}
+use Rattle.task.specs.Links.{Linked, earliestFrom, earliestAfter, latestOver, latestBy, forwardLink, backwardLink}
 
 -- ---- limits, as a test and as facts
 
@@ -47,18 +48,23 @@ limits-hold a w =
     rw (le-leb 1 (a .period) (w .period-pos), le-leb (a .period) 1000000 (w .period-max), le-leb 1 (a .duration) (w .duration-pos), le-leb (a .duration) 4000000 (w .duration-max))
     (le-leb (a .phase) 1000000 (w .phase-max))
 
+-- and of a place with a permitted gap
+pub limits-placed : (g : ℕ) (a : Task) → Within a → g ≤ gapLimit → Limited (placeOf g a)
+limits-placed g a w h =
+    record { period-pos = w .period-pos; period-max = w .period-max; duration-pos = w .duration-pos; duration-max = w .duration-max; phase-max = w .phase-max; gap-max = h }
+
 -- ---- reads
 
-pub read-mono : (a : Task) (i j : ℕ) → i ≤ j → readOf a i ≤ readOf a j
+pub read-mono : (a : Place) (i j : ℕ) → i ≤ j → readOf a i ≤ readOf a j
 read-mono a i j h = omega (arith, mul-le-mul-right (a .period) h)
 
 -- a job's number is at most its read
-pub job-small : (a : Task) → 1 ≤ a .period → (j : ℕ) → j ≤ readOf a j
+pub job-small : (a : Place) → 1 ≤ a .period → (j : ℕ) → j ≤ readOf a j
 job-small a h j = omega (arith, mul-le-mul-left j h, mul-one j)
 
 -- ---- the earliest job
 
-module _ (b : Task) (pos : 1 ≤ b .period) where
+module _ (b : Place) (pos : 1 ≤ b .period) where
   -- it reads at or after w,
   pub earliest-reads : (w : ℕ) → w ≤ readOf b (earliestFrom b w)
   unfolding earliestFrom
@@ -107,46 +113,50 @@ abbrev pub AtLeast : Latest → ℕ → Type 0
 AtLeast (Of i) j = j ≤ i .0
 AtLeast Nothing j = ⊥
 
-module _ (a : Task) (pos : 1 ≤ a .period) where
-  -- The latest job that writes at or before z is not before j exactly when job j writes at or before z.
-  pub latest-is : (z j : ℕ) → (writeOf a j ≤ z) ↔ AtLeast (latestBy a z) j
-  unfolding latestBy
-  latest-is z j = go (leb (writeOf a 0) z) refl
+module _ (a : Place) (pos : 1 ≤ a .period) where
+  -- The latest job whose read is d ticks or more before z is not before j exactly when job j is such a job.
+  pub latest-over : (d z j : ℕ) → (readOf a j + d ≤ z) ↔ AtLeast (latestOver a d z) j
+  unfolding latestOver
+  latest-over d z j = go (leb (a .phase + d) z) refl
     where
-      go : (t : Bool) → leb (writeOf a 0) z ≡ t → (writeOf a j ≤ z) ↔ AtLeast (cond t (Of (record { 0 = (z - writeOf a 0) / a .period })) Nothing) j
+      go : (t : Bool) → leb (a .phase + d) z ≡ t → (readOf a j + d ≤ z) ↔ AtLeast (cond t (Of (record { 0 = (z - (a .phase + d)) / a .period })) Nothing) j
       go true e =
-          let s : writeOf a 0 ≤ z = leb-true _ _ e in (
+          let s : a .phase + d ≤ z = leb-true _ _ e in (
             λ l. le-div-iff-mul-le pos .1 (omega arith),
-            λ (l : j ≤ (z - writeOf a 0) / a .period). let u : j * a .period ≤ z - writeOf a 0 = le-div-iff-mul-le pos .0 l in omega arith,
+            λ (l : j ≤ (z - (a .phase + d)) / a .period). let u : j * a .period ≤ z - (a .phase + d) = le-div-iff-mul-le pos .0 l in omega arith,
           )
-      go false e = let s : z < writeOf a 0 = leb-false _ _ e in (λ l. omega arith, λ l. absurd l)
+      go false e = let s : z < a .phase + d = leb-false _ _ e in (λ l. omega arith, λ l. absurd l)
 
--- p periods later the latest job is p later
-latest-period : (a : Task) → 1 ≤ a .period → (p z : ℕ) (j : Job) → latestBy a z ≡ Of j → latestBy a (z + p * a .period) ≡ Of (record { 0 = j .0 + p })
-unfolding latestBy
-latest-period a pos p z j e = go (leb (writeOf a 0) z) refl e
-  where
-    go : (t : Bool) → leb (writeOf a 0) z ≡ t → cond t (Of (record { 0 = (z - writeOf a 0) / a .period })) Nothing ≡ Of j
-        → cond (leb (writeOf a 0) (z + p * a .period)) (Of (record { 0 = (z + p * a .period - writeOf a 0) / a .period })) Nothing ≡ Of (record { 0 = j .0 + p })
-    go true t h =
-        let s : writeOf a 0 ≤ z = leb-true _ _ t in
-        let i : _≡_ {A = Job} (record { 0 = (z - writeOf a 0) / a .period }) j = cc in
-        let d : z + p * a .period - writeOf a 0 ≡ z - writeOf a 0 + p * a .period = omega arith in
-        rw (le-leb (writeOf a 0) (z + p * a .period) (omega arith), d, add-mul-div-right (z - writeOf a 0) p pos, ap (λ (x : Job). x .0) i)
-    go false t h = absurd (let y : _≡_ {A = ℕ} 0 1 = cc in omega arith)
+  -- So the latest job that writes at or before z is not before j exactly when job j writes at or before z.
+  pub latest-is : (z j : ℕ) → (writeOf a j ≤ z) ↔ AtLeast (latestBy a z) j
+  latest-is z j = latest-over (a .duration) z j
 
--- ---- one link, from task a to task b at the next place
+  -- p periods later the latest job is p later
+  latest-period : (d p z : ℕ) (j : Job) → latestOver a d z ≡ Of j → latestOver a d (z + p * a .period) ≡ Of (record { 0 = j .0 + p })
+  unfolding latestOver
+  latest-period d p z j e = go (leb (a .phase + d) z) refl e
+    where
+      go : (t : Bool) → leb (a .phase + d) z ≡ t → cond t (Of (record { 0 = (z - (a .phase + d)) / a .period })) Nothing ≡ Of j
+          → cond (leb (a .phase + d) (z + p * a .period)) (Of (record { 0 = (z + p * a .period - (a .phase + d)) / a .period })) Nothing ≡ Of (record { 0 = j .0 + p })
+      go true t h =
+          let s : a .phase + d ≤ z = leb-true _ _ t in
+          let i : _≡_ {A = Job} (record { 0 = (z - (a .phase + d)) / a .period }) j = cc in
+          let f : z + p * a .period - (a .phase + d) ≡ z - (a .phase + d) + p * a .period = omega arith in
+          rw (le-leb (a .phase + d) (z + p * a .period) (omega arith), f, add-mul-div-right (z - (a .phase + d)) p pos, ap (λ (x : Job). x .0) i)
+      go false t h = absurd (let y : _≡_ {A = ℕ} 0 1 = cc in omega arith)
 
-module _ (a b : Task) where
+-- ---- one link, from place a to the next place, b
+
+module _ (a b : Place) where
   -- Forward from j is the earliest job that j is linked to,
   pub link-forward : 1 ≤ b .period → (j k : ℕ) → (forwardLink a b j ≤ k) ↔ Linked a j b k
   unfolding forwardLink
-  link-forward pos j k = earliest-le b pos (writeOf a j) k
+  link-forward pos j k = earliest-le b pos (readableOf a j) k
 
   -- and backward from k the latest job that is linked to k.
   pub link-backward : 1 ≤ a .period → (j k : ℕ) → Linked a j b k ↔ AtLeast (backwardLink a b k) j
   unfolding backwardLink
-  link-backward pos j k = latest-is a pos (readOf b k) j
+  link-backward pos j k = let l = latest-over a pos (a .duration + a .gap) (readOf b k) j in (λ h. l .0 (omega arith), λ h. let u = l .1 h in omega arith)
 
   -- The link law: forward from j comes to k or earlier exactly when backward from k there is a job, j or later.
   pub link : 1 ≤ a .period → 1 ≤ b .period → (j k : ℕ) → (forwardLink a b j ≤ k) ↔ AtLeast (backwardLink a b k) j
@@ -159,24 +169,24 @@ module _ (a b : Task) where
       link-forward pos i (forwardLink a b j) .1 (omega (arith, mul-le-mul-right (a .period) h))
 
   -- A link goes forward in time,
-  pub forward-later : 1 ≤ b .period → (j : ℕ) → writeOf a j ≤ readOf b (forwardLink a b j)
+  pub forward-later : 1 ≤ b .period → (j : ℕ) → readableOf a j ≤ readOf b (forwardLink a b j)
   forward-later pos j = link-forward pos j (forwardLink a b j) .0 (omega arith)
 
   -- by less than a period, or to job 0,
-  pub forward-wait : 1 ≤ b .period → (j : ℕ) → 1 ≤ forwardLink a b j → readOf b (forwardLink a b j) < writeOf a j + b .period
+  pub forward-wait : 1 ≤ b .period → (j : ℕ) → 1 ≤ forwardLink a b j → readOf b (forwardLink a b j) < readableOf a j + b .period
   unfolding forwardLink
-  forward-wait pos j = earliest-wait b pos (writeOf a j)
+  forward-wait pos j = earliest-wait b pos (readableOf a j)
 
   -- so by no more than 1,000,000 ticks.
-  pub forward-soon : Within b → (j : ℕ) → readOf b (forwardLink a b j) ≤ writeOf a j + 1000000
+  pub forward-soon : Limited b → (j : ℕ) → readOf b (forwardLink a b j) ≤ readableOf a j + 1000000
   forward-soon w j = go (forwardLink a b j) refl
     where
-      go : (k : ℕ) → forwardLink a b j ≡ k → readOf b k ≤ writeOf a j + 1000000
+      go : (k : ℕ) → forwardLink a b j ≡ k → readOf b k ≤ readableOf a j + 1000000
       go zero e = omega (arith, w .phase-max)
       go (suc k) e = let f = forward-wait (w .period-pos) j (omega arith) in let g = rw e at f in omega (arith, w .period-max)
 
   -- A link goes backward in time.
-  pub backward-earlier : 1 ≤ a .period → (k : ℕ) (j : Job) → backwardLink a b k ≡ Of j → writeOf a (j .0) ≤ readOf b k
+  pub backward-earlier : 1 ≤ a .period → (k : ℕ) (j : Job) → backwardLink a b k ≡ Of j → readableOf a (j .0) ≤ readOf b k
   backward-earlier pos k j e = link-backward pos (j .0) k .1 (rw e (omega arith))
 
   -- Backward repeats where the periods fit the same number of ticks: q jobs later it is p jobs later.
@@ -185,4 +195,4 @@ module _ (a b : Task) where
   unfolding backwardLink
   backward-period pos p q same k j e =
       let s : readOf b (k + q) ≡ readOf b k + p * a .period = omega arith in
-      rw s (latest-period a pos p (readOf b k) j e)
+      rw s (latest-period a pos (a .duration + a .gap) p (readOf b k) j e)

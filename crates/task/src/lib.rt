@@ -1,16 +1,24 @@
-// Tasks, their jobs and ticks: when a job reads and writes, and which job reads or writes around a tick.
+// Tasks, the places of a chain, their jobs and ticks: when a job reads and writes, when the next place can read what it wrote, and which job reads or writes around a tick.
 // `within_limits` takes any task; what the other methods require is proved by the crates that call them.
-// A job number is never used as a tick: `Job` becomes `Tick` only by a task's read and write, `Tick` becomes `Job` only by their inverses.
+// A job number is never used as a tick: `Job` becomes `Tick` only by a place's read, write and gap, `Tick` becomes `Job` only by their inverses.
 ghost use mathlib.Core.Path.{_≡_};
 ghost use Prim.Native.Nat.{_+_, _*_, _≤_, _<_};
-ghost use Rattle.task.specs.Jobs.{readOf, writeOf, withinLimits};
-ghost use Rattle.task.specs.Links.{earliestFrom, earliestAfter, latestBy, forwardLink, backwardLink};
+ghost use Rattle.task.specs.Jobs.{readOf, writeOf, readableOf, withinLimits};
+ghost use Rattle.task.specs.Links.{earliestFrom, earliestAfter, latestOver, latestBy, forwardLink, backwardLink};
 
 // Document 01: period T, duration D and phase F.
 pub struct Task {
     pub period: u64,
     pub duration: u64,
     pub phase: u64,
+}
+
+// A place of a chain: the values of its task, and the gap of order 5, the ticks after a write until the next place can read it.
+pub struct Place {
+    pub period: u64,
+    pub duration: u64,
+    pub phase: u64,
+    pub gap: u64,
 }
 
 // A job's number, counted from 0.
@@ -44,7 +52,9 @@ impl Task {
         }
         self.phase <= 1000000
     }
+}
 
+impl Place {
     // The tick at which job j reads.
     pub fn read(self, j: Job) -> Tick
         requires { ⌜ readOf self (j .0) ≤ 2000000000000 ⌝ }
@@ -59,6 +69,14 @@ impl Task {
         ensures { λ r. ⌜ r .0 ≡ writeOf self (j .0) ⌝ }
     {
         Tick(self.phase + j.0 * self.period + self.duration)
+    }
+
+    // The tick from which on the next place can read what job j wrote.
+    pub fn readable(self, j: Job) -> Tick
+        requires { ⌜ readableOf self (j .0) ≤ 2000000000000 ⌝ }
+        ensures { λ r. ⌜ r .0 ≡ readableOf self (j .0) ⌝ }
+    {
+        Tick(self.phase + j.0 * self.period + self.duration + self.gap)
     }
 
     // The earliest job that reads at or after tick w.
@@ -83,33 +101,41 @@ impl Task {
         Job((t.0 - self.phase) / self.period + 1)
     }
 
+    // The latest job whose read is `ticks` ticks or more before tick z; there may be none.
+    fn latest_over(self, ticks: u64, z: Tick) -> Latest
+        requires { ⌜ 1 ≤ self .period ⌝ }
+        ensures { λ r. ⌜ r ≡ latestOver self ticks (z .0) ⌝ }
+    {
+        if z.0 < self.phase {
+            return Latest::Nothing;
+        }
+        if z.0 - self.phase < ticks {
+            return Latest::Nothing;
+        }
+        Latest::Of(Job((z.0 - self.phase - ticks) / self.period))
+    }
+
     // The latest job that writes at or before tick z; there may be none.
     pub fn latest_by(self, z: Tick) -> Latest
         requires { ⌜ 1 ≤ self .period ⌝ }
         ensures { λ r. ⌜ r ≡ latestBy self (z .0) ⌝ }
     {
-        if z.0 < self.phase {
-            return Latest::Nothing;
-        }
-        if z.0 - self.phase < self.duration {
-            return Latest::Nothing;
-        }
-        Latest::Of(Job((z.0 - self.phase - self.duration) / self.period))
+        self.latest_over(self.duration, z)
     }
 
-    // Forward over one link: the next place's earliest job that reads at or after job j's write.
-    pub fn forward_to(self, next: Task, j: Job) -> Job
-        requires { ⌜ (1 ≤ next .period) × (writeOf self (j .0) ≤ 2000000000000) ⌝ }
+    // Forward over one link: the next place's earliest job that reads at or after job j's write and the gap.
+    pub fn forward_to(self, next: Place, j: Job) -> Job
+        requires { ⌜ (1 ≤ next .period) × (readableOf self (j .0) ≤ 2000000000000) ⌝ }
         ensures { λ r. ⌜ r .0 ≡ forwardLink self next (j .0) ⌝ }
     {
-        next.earliest_from(self.write(j))
+        next.earliest_from(self.readable(j))
     }
 
-    // Backward over one link: the previous place's latest job that writes at or before job k's read; there may be none.
-    pub fn backward_to(self, previous: Task, k: Job) -> Latest
-        requires { ⌜ (1 ≤ previous .period) × (readOf self (k .0) ≤ 2000000000000) ⌝ }
+    // Backward over one link: the previous place's latest job whose write and the gap are over by job k's read; there may be none.
+    pub fn backward_to(self, previous: Place, k: Job) -> Latest
+        requires { ⌜ (1 ≤ previous .period) × (readOf self (k .0) ≤ 2000000000000) × (previous .duration + previous .gap ≤ 2000000000000) ⌝ }
         ensures { λ r. ⌜ r ≡ backwardLink previous self (k .0) ⌝ }
     {
-        previous.latest_by(self.read(k))
+        previous.latest_over(previous.duration + previous.gap, self.read(k))
     }
 }

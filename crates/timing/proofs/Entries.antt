@@ -7,7 +7,7 @@ use mathlib.Core.List.{List}
 use lib.ListN.{length, getD, set, length-set, replicate}
 use lib.Seq.{getD-set-same, getD-set-other}
 use borrow.Author.Tests.{lt-ltb, le-ltb}
-use Rattle.task.specs.declared.Task.{Task}
+use Rattle.task.specs.declared.Place.{Place}
 use Rattle.task.specs.declared.Job.{Job}
 use Rattle.chain.specs.Entries.{entries-are}
 use Rattle.timing.specs.WarmUp.{warmAt}
@@ -17,11 +17,11 @@ abbrev pub noJob : Job
 noJob = record { 0 = 0 }
 
 -- from entry i on the array holds what it should
-pub record From (l : List Task) (i : ℕ) (jobs : List Job) : Type 0 where
+pub record From (l : List Place) (i : ℕ) (jobs : List Job) : Type 0 where
   pub whole : length jobs ≡ 12
   pub each : (x : ℕ) → i ≤ x → x < 12 → getD jobs x noJob ≡ warmEntry l x
 
-module _ (l : List Task) (few : length l ≤ 12) where
+module _ (l : List Place) (few : length l ≤ 12) where
   pub from-store : (i : ℕ) (jobs : List Job) (k : Job) → i < length l → From l (i + 1) jobs → k .0 ≡ warmAt l i → From l i (set jobs i k)
   from-store i jobs k h from e = record {
     whole = length-set jobs i k ∙ from .whole;

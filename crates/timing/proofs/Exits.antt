@@ -13,7 +13,7 @@ use mathlib.Core.List.{List}
 use lib.ListN.{length, getD, replicate}
 use native.Mathlib.Omega.{arith}
 use Rattle.refusal.specs.Refusals.{none}
-use Rattle.task.specs.declared.Task.{Task}
+use Rattle.task.specs.declared.Place.{Place}
 use Rattle.task.specs.declared.Job.{Job}
 use Rattle.task.specs.declared.Tick.{Tick}
 use Rattle.timing.specs.declared.WarmUp.{WarmUp}
@@ -69,7 +69,7 @@ module _ (v : Verdict) (from t span : ℕ) where
         rw (e, le-ltb t from (r .0), le-ltb 1000000000000 t (r .1), k)
 
 -- warm-up
-module _ (l : List Task) (v : Verdict) where
+module _ (l : List Place) (v : Verdict) where
   pub warm-refused : (r : Refusal) → v ≡ verdict.Refused r
       → _≡_ {A = WarmUp} (record { refusal = r; jobs = replicate 12 noJob; tick = record { 0 = 0 }; hyperperiod = 0 }) (warmUpAfter l v)
   unfolding warmUpAfter
@@ -84,6 +84,6 @@ module _ (l : List Task) (v : Verdict) where
       made x = record { refusal = none; jobs = warmEntries l; tick = record { 0 = x }; hyperperiod = h }
 
 -- the array's entry at a place is the warm-up job there
-pub entry-job : (l : List Task) → Sound l → (jobs : List Job) → jobs ≡ warmEntries l → (p : ℕ) → p < length l → getD jobs p noJob .0 ≡ warmAt l p
+pub entry-job : (l : List Place) → Sound l → (jobs : List Job) → jobs ≡ warmEntries l → (p : ℕ) → p < length l → getD jobs p noJob .0 ≡ warmAt l p
 entry-job l ok jobs e p h =
     ap (λ (x : List Job). getD x p noJob .0) e ∙ ap (λ (x : Job). x .0) (entries-at (warmEntry l) noJob 12 p (omega (arith, ok .few))) ∙ rw (lt-ltb p (length l) h)

@@ -4,7 +4,7 @@ use native.Mathlib.Omega.{arith}
 use mathlib.Core.Path.{_≡_, refl, sym, ap, _∙_}
 use mathlib.Core.List.{List}
 use lib.ListN.{length}
-use Rattle.task.specs.declared.Task.{Task}
+use Rattle.task.specs.declared.Place.{Place}
 use Rattle.task.specs.Jobs.{readOf, writeOf}
 use Rattle.task.specs.Links.{backwardLink, earliestAfter, latestBy}
 use Rattle.chain.specs.Chains.{at, lastPlace, forwardBy, backwardBy, onLatest, walk, back, jobOf}
@@ -16,18 +16,18 @@ use Rattle.timing.specs.WarmLaws.{Found, found, at-least-job, warm-walk,
 use Rattle.timing.specs.WarmRanges.{walk-fits, walk-late, back-early, aged-range, warm-range, press-fits, press-late, latest-fits}
 
 -- the last place of a flat list, as the code counts it
-module _ (list : List ℕ) (ok : Sound (tasksIn list)) where
+module _ (g : ℕ) (list : List ℕ) (ok : Sound (tasksIn g list)) where
   pub some-place : 1 ≤ length list / 3
-  some-place = omega (arith, in-count list, ok .some)
+  some-place = omega (arith, in-count g list, ok .some)
 
-  pub last-inside : length list / 3 - 1 < length (tasksIn list)
-  last-inside = omega (arith, in-count list, ok .some)
+  pub last-inside : length list / 3 - 1 < length (tasksIn g list)
+  last-inside = omega (arith, in-count g list, ok .some)
 
   pub last-place-small : length list / 3 - 1 < 12
   last-place-small = omega (arith, last-inside, ok .few)
 
 -- n is the last place
-module _ (l : List Task) (n : ℕ) (end : n ≡ lastPlace l) where
+module _ (l : List Place) (n : ℕ) (end : n ≡ lastPlace l) where
   steps : n - 0 ≡ lastPlace l
   steps = omega (arith, end)
 
@@ -38,7 +38,7 @@ module _ (l : List Task) (n : ℕ) (end : n ≡ lastPlace l) where
   back-is m = ap (λ (k : ℕ). backwardBy l 0 k m) steps
 
   -- b is the task there
-  module _ (b : Task) (last : b ≡ at l n) where
+  module _ (b : Place) (last : b ≡ at l n) where
     pub last-is : b ≡ at l (lastPlace l)
     last-is = last ∙ ap (at l) end
 
@@ -46,24 +46,24 @@ module _ (l : List Task) (n : ℕ) (end : n ≡ lastPlace l) where
     pub walk-end : (j m : ℕ) → m ≡ forwardBy l 0 (n - 0) j → writeOf b m ≡ writeOf (at l (lastPlace l)) (walk l j)
     walk-end j m e = rw last-is (ap (writeOf (at l (lastPlace l))) (e ∙ walk-is j))
 
-module _ (l : List Task) (ok : Sound l) where
+module _ (l : List Place) (ok : Sound l) where
   -- ---- warm-up
 
   pub start-fits : writeOf (at l 0) 0 ≤ 1500000000000
   start-fits = let w = ok .each 0 (ok .some) in omega (arith, w .phase-max, w .duration-max)
 
   -- one link back from a warm-up job is the warm-up job at the place before
-  module _ (i m : ℕ) (b : Task) (inside : i < length l) (here : b ≡ at l i) (warm : m ≡ warmAt l i) where
+  module _ (i m : ℕ) (b : Place) (inside : i < length l) (here : b ≡ at l i) (warm : m ≡ warmAt l i) where
     pub warm-fits : readOf b m ≤ 2000000000000
     warm-fits = rw (here, warm) (omega (arith, warm-range l ok i inside))
 
-    pub warm-back : 0 < i → (a : Task) → a ≡ at l (i - 1) → jobOf (backwardLink a b m) ≡ warmAt l (i - 1)
+    pub warm-back : 0 < i → (a : Place) → a ≡ at l (i - 1) → jobOf (backwardLink a b m) ≡ warmAt l (i - 1)
     warm-back g a before =
         let z : i - 1 + 1 ≡ i = omega arith in
         let f = warm-step l ok (i - 1) (omega arith) in
         rw (before, here, warm) (sym (rw z at f))
 
-  module _ (a : Task) (first : a ≡ at l 0) (j : ℕ) (warm : j ≡ warmAt l 0) where
+  module _ (a : Place) (first : a ≡ at l 0) (j : ℕ) (warm : j ≡ warmAt l 0) where
     pub warm-tick-is : readOf a j ≡ warmTick l
     unfolding warmTick
     warm-tick-is = rw (first, warm)
@@ -87,11 +87,11 @@ module _ (l : List Task) (ok : Sound l) where
       pub warm-first-is : jobOf (backwardBy l 0 (n - 0) j) ≡ warmAt l 0
       warm-first-is = ap jobOf (back-is l n end j ∙ ap (back l) warm ∙ warm-first l ok)
 
-      pub first-aged-is : (b : Task) → b ≡ at l n → writeOf b j ≡ firstAged l
+      pub first-aged-is : (b : Place) → b ≡ at l n → writeOf b j ≡ firstAged l
       unfolding firstAged
       first-aged-is b last = rw (last-is l n end b last, warm)
 
-      pub first-aged-fits : (b : Task) → b ≡ at l n → writeOf b j ≤ 2000000000000
+      pub first-aged-fits : (b : Place) → b ≡ at l n → writeOf b j ≤ 2000000000000
       first-aged-fits b last = omega (arith, first-aged-is b last, aged-range l ok)
 
       pub warm-last-fits : readOf (at l n) j ≤ 1500000000000
@@ -99,14 +99,14 @@ module _ (l : List Task) (ok : Sound l) where
 
   -- ---- delay
 
-  module _ (t : ℕ) (top : t ≤ 1000000000000) (a : Task) (first : a ≡ at l 0) (j : ℕ) (earliest : j ≡ earliestAfter a t) where
+  module _ (t : ℕ) (top : t ≤ 1000000000000) (a : Place) (first : a ≡ at l 0) (j : ℕ) (earliest : j ≡ earliestAfter a t) where
     is-press : j ≡ earliestAfter (at l 0) t
-    is-press = earliest ∙ ap (λ (x : Task). earliestAfter x t) first
+    is-press = earliest ∙ ap (λ (x : Place). earliestAfter x t) first
 
     pub press-small : writeOf (at l 0) j ≤ 1500000000000
     press-small = omega (arith, ap (writeOf (at l 0)) is-press, press-fits l ok t)
 
-    module _ (n : ℕ) (end : n ≡ lastPlace l) (b : Task) (last : b ≡ at l n) (m : ℕ) (way : m ≡ forwardBy l 0 (n - 0) j) where
+    module _ (n : ℕ) (end : n ≡ lastPlace l) (b : Place) (last : b ≡ at l n) (m : ℕ) (way : m ≡ forwardBy l 0 (n - 0) j) where
       ended : writeOf b m ≡ writeOf (at l (lastPlace l)) (walk l j)
       ended = walk-end l n end b last j m way
 
@@ -122,12 +122,12 @@ module _ (l : List Task) (ok : Sound l) where
 
   -- ---- age
 
-  module _ (z : ℕ) (from : firstAged l ≤ z) (n : ℕ) (end : n ≡ lastPlace l) (b : Task) (last : b ≡ at l n) (m : ℕ) (latest : m ≡ jobOf (latestBy b z)) where
+  module _ (z : ℕ) (from : firstAged l ≤ z) (n : ℕ) (end : n ≡ lastPlace l) (b : Place) (last : b ≡ at l n) (m : ℕ) (latest : m ≡ jobOf (latestBy b z)) where
     there : Found (latestBy (at l (lastPlace l)) z)
     there = found (latestBy (at l (lastPlace l)) z) (warmLast l) (aged l ok z from)
 
     is-latest : m ≡ there .job .0
-    is-latest = latest ∙ ap (λ (x : Task). jobOf (latestBy x z)) (last-is l n end b last) ∙ ap jobOf (there .is)
+    is-latest = latest ∙ ap (λ (x : Place). jobOf (latestBy x z)) (last-is l n end b last) ∙ ap jobOf (there .is)
 
     after-warm : warmLast l ≤ m
     after-warm = omega (arith, at-least-job (latestBy (at l (lastPlace l)) z) (warmLast l) (aged l ok z from), ap jobOf (there .is), is-latest)
@@ -138,7 +138,7 @@ module _ (l : List Task) (ok : Sound l) where
     pub latest-small : z ≤ 1000000000000 → readOf (at l n) m ≤ 1500000000000
     latest-small top = rw end (omega (arith, written))
 
-    module _ (j : ℕ) (way : j ≡ jobOf (backwardBy l 0 (n - 0) m)) (a : Task) (first : a ≡ at l 0) where
+    module _ (j : ℕ) (way : j ≡ jobOf (backwardBy l 0 (n - 0) m)) (a : Place) (first : a ≡ at l 0) where
       start : Found (back l m)
       start = back-there l ok m after-warm
 
@@ -153,4 +153,4 @@ module _ (l : List Task) (ok : Sound l) where
       age-is e h =
           let s : jobOf (onLatest (latestBy (at l (lastPlace l)) z) (back l)) ≡ start .job .0
           = ap (λ q. jobOf (onLatest q (back l))) (there .is) ∙ ap (λ (x : ℕ). jobOf (back l x)) (sym is-latest) ∙ ap jobOf (start .is) in
-          ap (λ (x : ℕ). z - x) (h ∙ ap (λ (x : Task). readOf x j) first ∙ ap (readOf (at l 0)) (is-start ∙ sym s))
+          ap (λ (x : ℕ). z - x) (h ∙ ap (λ (x : Place). readOf x j) first ∙ ap (readOf (at l 0)) (is-start ∙ sym s))

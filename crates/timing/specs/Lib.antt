@@ -7,3 +7,4 @@ pub mod WarmRanges
 pub mod Period
 pub mod Spans
 pub mod FinerClock
+pub mod WithoutGap

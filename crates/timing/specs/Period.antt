@@ -5,7 +5,7 @@ use native.Mathlib.Decide.{decLt}
 use mathlib.Core.Path.{_≡_, refl, sym, ap, _∙_}
 use mathlib.Core.List.{List}
 use lib.ListN.{length}
-use Rattle.task.specs.declared.Task.{Task}
+use Rattle.task.specs.declared.Place.{Place}
 use Rattle.task.specs.declared.Job.{Job}
 use Rattle.task.specs.declared.Latest.{Latest}
 use Rattle.task.specs.declared.Latest.the-variants.{Of, Nothing}
@@ -22,11 +22,11 @@ use Rattle.chain.specs.GaloisPair.{countOf, countBack, pair, f-period}
 use Rattle.timing.specs.WarmLaws.{warm-count}
 
 -- h is a multiple of the periods up to place p, each at least 1.
-abbrev pub Repeats : ℕ → List Task → ℕ → Type 0
+abbrev pub Repeats : ℕ → List Place → ℕ → Type 0
 Repeats h l p = (i : ℕ) → i ≤ p → (1 ≤ at l i .period) × (h / at l i .period * at l i .period ≡ h)
 
 -- h ticks later the way backward comes to a job h ticks later
-pub backward-repeats : (l : List Task) (h p n : ℕ) → Repeats h l (p + n) → (m : ℕ) (j : Job) → backwardBy l p n m ≡ Of j
+pub backward-repeats : (l : List Place) (h p n : ℕ) → Repeats h l (p + n) → (m : ℕ) (j : Job) → backwardBy l p n m ≡ Of j
     → backwardBy l p n (m + h / at l (p + n) .period) ≡ Of (record { 0 = j .0 + h / at l p .period })
 unfolding backwardBy onLatest
 backward-repeats l h p zero w m j e =
@@ -46,7 +46,7 @@ backward-repeats l h p (suc n) w m j e =
         rw (backward-period (at l (p + n)) (at l (p + suc n)) (v .0) (h / at l (p + n) .period) (h / at l (p + suc n) .period) (v .1 ∙ sym (u .1)) m k a) (ih (k .0) b)
 
 -- the same of the count back
-count-repeats : (l : List Task) (h p n : ℕ) → Repeats h l (p + n) → (m : ℕ) → 0 < countBack l p n m
+count-repeats : (l : List Place) (h p n : ℕ) → Repeats h l (p + n) → (m : ℕ) → 0 < countBack l p n m
     → countBack l p n (m + h / at l (p + n) .period) ≡ countBack l p n m + h / at l p .period
 unfolding countBack
 count-repeats l h p n w zero g = absurd (omega arith)
@@ -60,7 +60,7 @@ count-repeats l h p n w (suc m) g =
 
 -- ---- of a chain that passes the checks 8 and 5
 
-module _ (l : List Task) (ok : Sound l) where
+module _ (l : List Place) (ok : Sound l) where
   pub hyper-repeats : (p : ℕ) → p < length l → Repeats (hyperOf l) l p
   hyper-repeats p h i g = (ok .each i (omega arith) .period-pos, hyper-times l i (omega arith))
 

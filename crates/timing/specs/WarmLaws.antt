@@ -6,7 +6,7 @@ use mathlib.Core.Logic.{_↔_}
 use mathlib.Core.Bool.{true, false}
 use mathlib.Core.List.{List}
 use lib.ListN.{length}
-use Rattle.task.specs.declared.Task.{Task}
+use Rattle.task.specs.declared.Place.{Place}
 use Rattle.task.specs.declared.Job.{Job}
 use Rattle.task.specs.declared.Latest.{Latest}
 use Rattle.task.specs.declared.Latest.the-variants.{Of, Nothing}
@@ -50,11 +50,11 @@ no-job Nothing h = refl
 -- ---- of a chain that passes the checks 8 and 5
 
 -- k is the least job number at the last place from which the backward steps reach the first place
-pub record WarmLast (l : List Task) (k : ℕ) : Type 0 where
+pub record WarmLast (l : List Place) (k : ℕ) : Type 0 where
   pub reached : reaches l k ≡ true
   pub least : (i : ℕ) → i < k → reaches l i ≡ false
 
-module _ (l : List Task) (ok : Sound l) where
+module _ (l : List Place) (ok : Sound l) where
   pub periods : (p : ℕ) → p < length l → Periods l p
   periods p h i g = ok .each i (omega arith) .period-pos
 

@@ -4,7 +4,7 @@ use native.Mathlib.Omega.{arith}
 use mathlib.Core.Path.{_≡_}
 use mathlib.Core.List.{List}
 use lib.ListN.{length}
-use Rattle.task.specs.declared.Task.{Task}
+use Rattle.task.specs.declared.Place.{Place}
 use Rattle.task.specs.declared.Job.{Job}
 use Rattle.task.specs.declared.Latest.the-variants.{Of}
 use Rattle.task.specs.Jobs.{readOf, writeOf}
@@ -17,11 +17,11 @@ use Rattle.timing.specs.WarmUp.{warmLast, warmAt}
 use Rattle.timing.specs.Delay.{firstAged}
 use Rattle.timing.specs.WarmLaws.{warm-walk, warm-found}
 
-module _ (l : List Task) (ok : Sound l) where
+module _ (l : List Place) (ok : Sound l) where
   last-in : lastPlace l < length l
   last-in = omega (arith, ok .some)
 
-  pub walk-fits : (j : ℕ) → writeOf (at l (lastPlace l)) (walk l j) ≤ writeOf (at l 0) j + 55000000
+  pub walk-fits : (j : ℕ) → writeOf (at l (lastPlace l)) (walk l j) ≤ writeOf (at l 0) j + 55011000
   walk-fits j =
       let z : lastPlace l - 0 ≡ lastPlace l = omega arith in
       let f = forward-fits l ok 0 (lastPlace l) (omega arith) last-in j in
@@ -38,8 +38,8 @@ module _ (l : List Task) (ok : Sound l) where
       let z : lastPlace l - 0 ≡ lastPlace l = omega arith in
       backward-fits l ok 0 (lastPlace l) (omega arith) last-in k j (rw z e)
 
-  -- The write of Wn comes within 60,000,000 ticks.
-  pub aged-range : firstAged l ≤ 60000000
+  -- The write of Wn comes within 60,011,000 ticks.
+  pub aged-range : firstAged l ≤ 60011000
   unfolding firstAged
   aged-range =
       let w = ok .each 0 (ok .some) in
@@ -52,8 +52,8 @@ module _ (l : List Task) (ok : Sound l) where
       let r = backward-fits l ok p (lastPlace l) (omega arith) (omega arith) (warmLast l) (f .job) (f .is) in
       rw (f .is) (omega arith)
 
-  -- so every warm-up job reads within 60,000,000 ticks.
-  pub warm-range : (p : ℕ) → p < length l → readOf (at l p) (warmAt l p) ≤ 60000000
+  -- so every warm-up job reads within 60,011,000 ticks.
+  pub warm-range : (p : ℕ) → p < length l → readOf (at l p) (warmAt l p) ≤ 60011000
   warm-range p h = omega (arith, warm-before-age p h, aged-range)
 
   -- The first job after a press at t writes within 6,000,001 ticks,

@@ -10,11 +10,12 @@ use borrow.Author.Tests.{le-leb, lt-leb, eq-eqb, ne-eqb}
 use Rattle.refusal.specs.declared.Refusal.{Refusal}
 use Rattle.refusal.specs.Refusals.{refusal}
 use Rattle.task.specs.declared.Task.{Task}
+use Rattle.task.specs.declared.Place.{Place}
 use Rattle.task.specs.declared.Job.{Job}
 use Rattle.task.specs.Jobs.{writeOf}
 use Rattle.chain.specs.declared.Verdict.{Verdict}
 use Rattle.chain.specs.declared.Verdict.the-variants as verdict
-use Rattle.chain.specs.Chains.{at}
+use Rattle.chain.specs.Chains.{placed, at}
 use Rattle.chain.specs.Multiples.{hyper-times}
 use Rattle.chain.specs.Checks.{verdictIn, Sound}
 use Rattle.chain.proofs.CheckLaws.{FactsIn, accepted-in}
@@ -41,13 +42,13 @@ module _ (h k : ℕ) where
   pub judge-well : 1 ≤ k → k ≤ 100 → verdict.Accepted h ≡ afterLimits (verdict.Accepted h) k
   judge-well l g = rw (le-leb 1 k l, le-leb k 100 g)
 
--- what the checks say of a list of tasks
-abbrev pub judgedIn : List Task → ℕ → Verdict
-judgedIn l k = afterLimits (verdictIn l) k
+-- what the checks say of a gap and a list of tasks
+abbrev pub judgedIn : ℕ → List Task → ℕ → Verdict
+judgedIn d t k = afterLimits (verdictIn d t) k
 
-pub windows-refused : (l : List Task) (B k : ℕ) (r : Refusal) → judgedIn l k ≡ verdict.Refused r → Refused r ≡ windowsIn l B k
+pub windows-refused : (d : ℕ) (t : List Task) (B k : ℕ) (r : Refusal) → judgedIn d t k ≡ verdict.Refused r → Refused r ≡ windowsIn d t B k
 unfolding windowsAfter
-windows-refused l B k r e = rw e
+windows-refused d t B k r e = rw e
 
 -- a look at the n numbers from `from` on
 module _ (f : ℕ → ℕ) (from last n : ℕ) (range : from + n ≡ last + 1) (some : 1 ≤ n) (at m : ℕ) where
@@ -71,17 +72,20 @@ module _ (f : ℕ → ℕ) (from last n : ℕ) (range : from + n ≡ last + 1) (
       record { low = t .low; high = omega arith; passes = eq-eqb (f at) (largest f from n) (omega arith); before = λ x u v. ne-eqb (f x) (largest f from n) (λ e. omega (arith, t .before x u v)) }
 
 -- an accepted call, w being W1 and a the first task
-pub record Call (l : List Task) (k h w : ℕ) (a : Task) : Type 0 where
-  pub accepted : judgedIn l k ≡ verdict.Accepted h
-  pub warm : w ≡ warmAt l 0
-  pub first : a ≡ at l 0
+pub record Call (d : ℕ) (ts : List Task) (k h w : ℕ) (a : Place) : Type 0 where
+  pub accepted : judgedIn d ts k ≡ verdict.Accepted h
+  pub warm : w ≡ warmAt (placed d ts) 0
+  pub first : a ≡ at (placed d ts) 0
 
-module _ (l : List Task) (k h w : ℕ) (a : Task) (c : Call l k h w a) where
-  well : Passed (verdictIn l) k h
+module _ (d : ℕ) (ts : List Task) (k h w : ℕ) (a : Place) (c : Call d ts k h w a) where
+  abbrev l : List Place
+  l = placed d ts
+
+  well : Passed (verdictIn d ts) k h
   well = passed _ _ _ (c .accepted)
 
   f : FactsIn l h
-  f = accepted-in l h (well .whole)
+  f = accepted-in d ts h (well .whole)
 
   pub period-pos : 0 < a .period
   period-pos = rw (c .first) (f .sound .each 0 (f .sound .some) .period-pos)
@@ -109,7 +113,7 @@ module _ (l : List Task) (k h w : ℕ) (a : Task) (c : Call l k h w a) where
 
   module _ (B : ℕ) where
     -- a look for the largest number of misses ends at the earliest job that has it
-    first-most : (m : ℕ) (j : Job) (y : ℕ) → m ≡ mostMisses l B k → Looked (windowOf l B k) m (w + 1) (w + h / a .period) (j .0) y → Most m j ≡ windowsIn l B k
+    first-most : (m : ℕ) (j : Job) (y : ℕ) → m ≡ mostMisses l B k → Looked (windowOf l B k) m (w + 1) (w + h / a .period) (j .0) y → Most m j ≡ windowsIn d ts B k
     unfolding windowsAfter mostMisses earliestJob
     first-most m j y e u =
         let i : j .0 ≡ earliestJob l B k
@@ -118,7 +122,7 @@ module _ (l : List Task) (k h w : ℕ) (a : Task) (c : Call l k h w a) where
         rw (c .accepted) (ap (λ (v : ℕ). Most v j) e ∙ ap (λ (v : ℕ). Most (mostMisses l B k) (record { 0 = v })) i)
 
     -- a window that has k misses
-    pub windows-full : (j : Job) (x : ℕ) → Looked (windowOf l B k) k (w + 1) (w + h / a .period) (j .0) x → j .0 ≤ w + h / a .period → Most k j ≡ windowsIn l B k
+    pub windows-full : (j : Job) (x : ℕ) → Looked (windowOf l B k) k (w + 1) (w + h / a .period) (j .0) x → j .0 ≤ w + h / a .period → Most k j ≡ windowsIn d ts B k
     unfolding mostMisses
     windows-full j x t u =
         first-most k j x
@@ -126,6 +130,6 @@ module _ (l : List Task) (k h w : ℕ) (a : Task) (c : Call l k h w a) where
 
     -- no window has k, and one has m
     pub windows-most : (j : Job) (m x y : ℕ) → Looked (windowOf l B k) k (w + 1) (w + h / a .period) x m → w + h / a .period < x → Looked (windowOf l B k) m (w + 1) (w + h / a .period) (j .0) y
-        → Most m j ≡ windowsIn l B k
+        → Most m j ≡ windowsIn d ts B k
     unfolding mostMisses
     windows-most j m x y s t u = first-most m j y (rw (← (c .warm), ← starts-are) (all-seen (windowOf l B k) _ _ (h / a .period) (omega arith) some-start x m k s t)) u

@@ -9,7 +9,7 @@ use mathlib.Core.Path.{_≡_, refl, ap, _∙_}
 use mathlib.Core.List.{List}
 use lib.Dec.{ltb, eqb}
 use borrow.Author.Tests.{eqb-true, eqb-false, eq-eqb}
-use Rattle.task.specs.declared.Task.{Task}
+use Rattle.task.specs.declared.Place.{Place}
 use Rattle.task.specs.Jobs.{writeOf}
 use Rattle.chain.specs.Chains.{at, lastPlace, walk}
 use Rattle.chain.specs.Hyperperiod.{hyperOf}
@@ -22,7 +22,7 @@ use Rattle.ranges.specs.LeastLaws.{first-found}
 use Rattle.windows.specs.Windows.{spanOf, misses, one, missesIn, starts, windowOf, mostMisses, earliestJob}
 
 -- The mark of a bad stretch: the k jobs from j on, j being in the range, have m misses; no k successive jobs after W1 have more, over all time; and those that begin before j have fewer.
-pub record BadStretch (l : List Task) (B k m j : ℕ) : Type 0 where
+pub record BadStretch (l : List Place) (B k m j : ℕ) : Type 0 where
   pub after : warmAt l 0 < j
   pub within : j ≤ warmAt l 0 + starts l
   pub has : windowOf l B k j ≡ m
@@ -30,7 +30,7 @@ pub record BadStretch (l : List Task) (B k m j : ℕ) : Type 0 where
   pub fewer : (s : ℕ) → warmAt l 0 < s → s < j → windowOf l B k s < m
 
 -- "the same mark on each machine": there is but one.
-pub one-stretch : (l : List Task) (B k m n i j : ℕ) → BadStretch l B k m i → BadStretch l B k n j → (m ≡ n) × (i ≡ j)
+pub one-stretch : (l : List Place) (B k m n i j : ℕ) → BadStretch l B k m i → BadStretch l B k n j → (m ≡ n) × (i ≡ j)
 one-stretch l B k m n i j p q =
     let same : m ≡ n = omega (arith, p .has, q .has, p .no-more j (q .after), q .no-more i (p .after)) in
     let a : i < j → ⊥ = λ h. omega (arith, q .fewer i (p .after) h, p .has) in
@@ -39,7 +39,7 @@ one-stretch l B k m n i j p q =
 
 -- ---- of a chain that passes the checks 8 and 5
 
-module _ (l : List Task) (ok : Sound l) where
+module _ (l : List Place) (ok : Sound l) where
   -- there is a first job
   pub starts-pos : 1 ≤ starts l
   starts-pos = elim (decLe 1 (starts l)) [

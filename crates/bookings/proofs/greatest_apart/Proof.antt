@@ -11,12 +11,12 @@ use Rattle.bookings.proofs.greatest_apart.Tie as tie
 
 -- a and b are the stretches at t, and the largest of all is that of what is found and what is left
 abbrev Inv-loop : tie.InvT-loop
-Inv-loop first second end t₀ a₀ b₀ most₀ t a b most =
-    (t .0 ≤ 1000000000000) × (a ≡ stretchAt (tasksIn first) (t .0)) × (b ≡ stretchAt (tasksIn second) (t .0))
-    × (largest (apartAt (tasksIn first) (tasksIn second)) (t₀ .0) (end .0 - t₀ .0) ≡ max most (largest (apartAt (tasksIn first) (tasksIn second)) (t .0) (end .0 - t .0)))
+Inv-loop first gap1 second gap2 end t₀ a₀ b₀ most₀ t a b most =
+    (t .0 ≤ 1000000000000) × (a ≡ stretchAt (tasksIn gap1 first) (t .0)) × (b ≡ stretchAt (tasksIn gap2 second) (t .0))
+    × (largest (apartAt (tasksIn gap1 first) (tasksIn gap2 second)) (t₀ .0) (end .0 - t₀ .0) ≡ max most (largest (apartAt (tasksIn gap1 first) (tasksIn gap2 second)) (t .0) (end .0 - t .0)))
 
 abbrev μ-loop : tie.MeasureT-loop
-μ-loop first second end t₀ a₀ b₀ most₀ t a b most = end .0 - t .0
+μ-loop first gap1 second gap2 end t₀ a₀ b₀ most₀ t a b most = end .0 - t .0
 
 stretch-at-requires : tie.Need-stretch-at-requires Inv-loop μ-loop
 stretch-at-requires c κs = let s = c .before .before in (s .pre .0, omega (arith, s .pre .2, s .pre .3))
@@ -63,8 +63,8 @@ loop-again c =
     let l = c .before .before .before .before .before .before .before .before .loop in
     let e = c .before .before .earlier .ensures in (
       fits (c .before .before),
-      next-first _ (tasksIn (s .args .second .now)) (s .pre .0) (s .pre .1) (l .t .0) _ _ (l .inv .1) (l .inv .2) _ e _ (c .before .stretch-on .ensures),
-      next-second (tasksIn (s .args .first .now)) _ (s .pre .0) (s .pre .1) (l .t .0) _ _ (l .inv .1) (l .inv .2) _ e _ (c .stretch-on2 .ensures),
+      next-first _ (tasksIn (s .args .gap2) (s .args .second .now)) (s .pre .0) (s .pre .1) (l .t .0) _ _ (l .inv .1) (l .inv .2) _ e _ (c .before .stretch-on .ensures),
+      next-second (tasksIn (s .args .gap1) (s .args .first .now)) _ (s .pre .0) (s .pre .1) (l .t .0) _ _ (l .inv .1) (l .inv .2) _ e _ (c .stretch-on2 .ensures),
       next-left _ _ (s .pre .0) (s .pre .1) (l .t .0) _ _ (l .inv .1) (l .inv .2) _ e _ _ _ _ _ (c .before .before .before .before .before .if1 .taken) (c .before .before .before .before .apart .ensures) (c .before .before .before .larger .ensures) (l .inv .3),
     )
 

@@ -6,8 +6,8 @@ use borrow.Author.Needs.{needs}
 use Rattle.capi_maker.proofs.mo_make_table.Statement.{statement}
 use Rattle.capi_maker.proofs.mo_make_table.Tie as tie
 
-front : (c : tie.After-flat-length) → Given (c .before .before .before .before .args .tasks .now) (c .before .before .before .before .args .places) (c .flat-length .result)
-front c = given _ _ _ (c .flat-length .ensures)
+front : (c : tie.After-flat-length) → Given (c .before .before .before .before .args .tasks .now) (c .before .before .before .before .args .places) (c .before .before .before .before .args .gap) (c .flat-length .result)
+front c = given _ _ _ _ (c .flat-length .ensures)
 
 flat-length-requires : tie.Need-flat-length-requires
 flat-length-requires c κs = search needs

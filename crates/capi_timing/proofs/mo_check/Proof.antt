@@ -8,10 +8,10 @@ use borrow.Author.Needs.{needs}
 use Rattle.capi_timing.proofs.mo_check.Statement.{statement}
 use Rattle.capi_timing.proofs.mo_check.Tie as tie
 
-front : (c : tie.After-flat-length) → Given (c .before .before .args .tasks .now) (c .before .before .args .places) (c .flat-length .result)
-front c = given _ _ _ (c .flat-length .ensures)
+front : (c : tie.After-flat-length) → Given (c .before .before .args .tasks .now) (c .before .before .args .places) (c .before .before .args .gap) (c .flat-length .result)
+front c = given _ _ _ _ (c .flat-length .ensures)
 
-answer : (c : tie.After-check-on) → c .check-on .result ≡ verdictOf (chainFrom (c .before .before .before .before .args .tasks .now) (c .before .before .before .before .args .places))
+answer : (c : tie.After-check-on) → c .check-on .result ≡ verdictOf (chainFrom (c .before .before .before .before .args .tasks .now) (c .before .before .before .before .args .places) (c .before .before .before .before .args .gap))
 answer c = c .check-on .ensures ∙ front (c .before .before) .stands .verdict
 
 flat-length-requires : tie.Need-flat-length-requires

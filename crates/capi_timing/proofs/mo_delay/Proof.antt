@@ -9,11 +9,11 @@ use borrow.Author.Needs.{needs}
 use Rattle.capi_timing.proofs.mo_delay.Statement.{statement}
 use Rattle.capi_timing.proofs.mo_delay.Tie as tie
 
-front : (c : tie.After-flat-length) → Given (c .before .before .args .tasks .now) (c .before .before .args .places) (c .flat-length .result)
-front c = given _ _ _ (c .flat-length .ensures)
+front : (c : tie.After-flat-length) → Given (c .before .before .args .tasks .now) (c .before .before .args .places) (c .before .before .args .gap) (c .flat-length .result)
+front c = given _ _ _ _ (c .flat-length .ensures)
 
-answer : (c : tie.After-delay-on) → c .delay-on .result ≡ delayOf (chainFrom (c .before .before .before .before .args .tasks .now) (c .before .before .before .before .args .places)) (c .before .before .before .before .args .t)
-answer c = c .delay-on .ensures ∙ delay-stands _ _ (front (c .before .before) .stands) _
+answer : (c : tie.After-delay-on) → c .delay-on .result ≡ delayOf (chainFrom (c .before .before .before .before .args .tasks .now) (c .before .before .before .before .args .places) (c .before .before .before .before .args .gap)) (c .before .before .before .before .args .t)
+answer c = c .delay-on .ensures ∙ delay-stands _ _ _ (front (c .before .before) .stands) _
 
 flat-length-requires : tie.Need-flat-length-requires
 flat-length-requires c κs = search needs

@@ -12,11 +12,11 @@ use borrow.Author.Needs.{needs}
 use Rattle.capi_timing.proofs.mo_warm_up.Statement.{statement}
 use Rattle.capi_timing.proofs.mo_warm_up.Tie as tie
 
-front : (c : tie.After-flat-length) → Given (c .before .before .args .tasks .now) (c .before .before .args .places) (c .flat-length .result)
-front c = given _ _ _ (c .flat-length .ensures)
+front : (c : tie.After-flat-length) → Given (c .before .before .args .tasks .now) (c .before .before .args .places) (c .before .before .args .gap) (c .flat-length .result)
+front c = given _ _ _ _ (c .flat-length .ensures)
 
-answer : (c : tie.After-warm-up-on) → c .warm-up-on .result ≡ warmUpOf (chainFrom (c .before .before .before .before .args .tasks .now) (c .before .before .before .before .args .places))
-answer c = c .warm-up-on .ensures ∙ warm-up-stands _ _ (front (c .before .before) .stands)
+answer : (c : tie.After-warm-up-on) → c .warm-up-on .result ≡ warmUpOf (chainFrom (c .before .before .before .before .args .tasks .now) (c .before .before .before .before .args .places) (c .before .before .before .before .args .gap))
+answer c = c .warm-up-on .ensures ∙ warm-up-stands _ _ _ (front (c .before .before) .stands)
 
 flat-length-requires : tie.Need-flat-length-requires
 flat-length-requires c κs = search needs
@@ -31,7 +31,7 @@ job-numbers-requires : tie.Need-job-numbers-requires
 job-numbers-requires c κs = search needs
 
 code-requires : tie.Need-code-requires
-code-requires c κs = warm-fits (chainFrom (c .before .before .before .before .before .before .before .before .args .tasks .now) (c .before .before .before .before .before .before .before .before .args .places)) _ (answer (c .before .before .before .before))
+code-requires c κs = warm-fits (chainFrom (c .before .before .before .before .before .before .before .before .args .tasks .now) (c .before .before .before .before .before .before .before .before .args .places) (c .before .before .before .before .before .before .before .before .args .gap)) _ (answer (c .before .before .before .before))
 
 returns : tie.Need-returns
 returns c =

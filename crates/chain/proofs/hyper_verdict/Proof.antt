@@ -5,9 +5,9 @@ use mathlib.Core.Path.{_≡_, refl, sym, ap, _∙_}
 use lib.ListN.{length, drop}
 use Rattle.euclid.specs.Divisor.{lcmOf}
 use Rattle.euclid.specs.LeastMultiple.{lcm-ge}
-use Rattle.task.specs.declared.Task.{Task}
-use Rattle.task.specs.Jobs.{Within}
-use Rattle.chain.specs.Chains.{zeroTask}
+use Rattle.task.specs.declared.Place.{Place}
+use Rattle.task.specs.Jobs.{Limited}
+use Rattle.chain.specs.Chains.{zeroPlace}
 use Rattle.chain.specs.Hyperperiod.{hyperFrom, hyperOf}
 use Rattle.chain.specs.Flat.{tasksIn, in-count}
 use Rattle.chain.specs.Multiples.{from-ge}
@@ -18,24 +18,24 @@ use Rattle.chain.proofs.hyper_verdict.Tie as tie
 
 -- the multiple of the whole is that of h and what is left
 abbrev Inv-loop : tie.InvT-loop
-Inv-loop tasks n h₀ i₀ h i = (n ≡ length (tasksIn tasks)) × (i ≤ n) × (1 ≤ h) × (h ≤ 60000000) × (hyperOf (tasksIn tasks) ≡ hyperFrom h (drop i (tasksIn tasks)))
+Inv-loop tasks gap n h₀ i₀ h i = (n ≡ length (tasksIn gap tasks)) × (i ≤ n) × (1 ≤ h) × (h ≤ 60000000) × (hyperOf (tasksIn gap tasks) ≡ hyperFrom h (drop i (tasksIn gap tasks)))
 
 abbrev μ-loop : tie.MeasureT-loop
-μ-loop tasks n h₀ i₀ h i = n - i
+μ-loop tasks gap n h₀ i₀ h i = n - i
 
 -- the task at the loop's place is within its limits
-within : (c : tie.After-task-at Inv-loop μ-loop) → Within (c .task-at .result)
+within : (c : tie.After-task-at Inv-loop μ-loop) → Limited (c .task-at .result)
 within c = rw (c .task-at .ensures) (c .before .before .before .before .pre .each (c .before .before .loop .i) (omega (arith, c .before .before .loop .inv .0)))
 
 -- the multiple, one task further
-next : (c : tie.After-task-at Inv-loop μ-loop) → hyperOf (tasksIn (c .before .before .before .before .args .tasks .now)) ≡ hyperFrom (lcmOf (c .before .before .loop .h) (c .task-at .result .period)) (drop (c .before .before .loop .i + 1) (tasksIn (c .before .before .before .before .args .tasks .now)))
+next : (c : tie.After-task-at Inv-loop μ-loop) → hyperOf (tasksIn (c .before .before .before .before .args .gap) (c .before .before .before .before .args .tasks .now)) ≡ hyperFrom (lcmOf (c .before .before .loop .h) (c .task-at .result .period)) (drop (c .before .before .loop .i + 1) (tasksIn (c .before .before .before .before .args .gap) (c .before .before .before .before .args .tasks .now)))
 next c =
     let l = c .before .before .loop in
-    let t = tasksIn (c .before .before .before .before .args .tasks .now) in
-    l .inv .4 ∙ ap (hyperFrom (l .h)) (rest-cons t (l .i) zeroTask (omega (arith, l .inv .0))) ∙ hyper-cons _ _ _ ∙ ap (λ (x : Task). hyperFrom (lcmOf (l .h) (x .period)) (drop (l .i + 1) t)) (sym (c .task-at .ensures))
+    let t = tasksIn (c .before .before .before .before .args .gap) (c .before .before .before .before .args .tasks .now) in
+    l .inv .4 ∙ ap (hyperFrom (l .h)) (rest-cons t (l .i) zeroPlace (omega (arith, l .inv .0))) ∙ hyper-cons _ _ _ ∙ ap (λ (x : Place). hyperFrom (lcmOf (l .h) (x .period)) (drop (l .i + 1) t)) (sym (c .task-at .ensures))
 
 loop-holds : tie.Need-loop-holds Inv-loop μ-loop
-loop-holds c = (in-count (c .before .args .tasks .now), omega arith, omega arith, omega arith, refl)
+loop-holds c = (in-count (c .before .args .gap) (c .before .args .tasks .now), omega arith, omega arith, omega arith, refl)
 
 task-at-requires : tie.Need-task-at-requires Inv-loop μ-loop
 task-at-requires c κs = let l = c .before .loop in (omega (arith, l .inv .0), omega (arith, l .inv .0, c .before .before .before .pre .few))
@@ -47,7 +47,7 @@ returns : tie.Need-returns Inv-loop μ-loop
 returns c =
     let a = c .before .before in
     let l = c .before .before .before .before .loop in
-    let t = tasksIn (c .before .before .before .before .before .before .args .tasks .now) in
+    let t = tasksIn (c .before .before .before .before .before .before .args .gap) (c .before .before .before .before .before .before .args .tasks .now) in
     hyper-above _ (omega (arith, next a, c .before .lcm .ensures, from-ge (drop (l .i + 1) t) (lcmOf (l .h) (a .task-at .result .period)) (rest-periods _ (c .before .before .before .before .before .before .pre) (l .i + 1))))
 
 add-i : tie.Need-add-i Inv-loop μ-loop
@@ -60,7 +60,7 @@ loop-again : tie.Need-loop-again Inv-loop μ-loop
 loop-again c =
     let a = c .before .before in
     let l = c .before .before .before .before .loop in
-    let t = tasksIn (c .before .before .before .before .before .before .args .tasks .now) in (
+    let t = tasksIn (c .before .before .before .before .before .before .args .gap) (c .before .before .before .before .before .before .args .tasks .now) in (
       l .inv .0,
       omega arith,
       omega (arith, l .inv .2, c .before .lcm .ensures, lcm-ge (l .h) (a .task-at .result .period) (within a .period-pos)),
@@ -71,7 +71,7 @@ loop-again c =
 returns-2 : tie.Need-returns-2 Inv-loop μ-loop
 returns-2 c =
     let l = c .before .loop in
-    hyper-accepted _ _ (l .inv .4 ∙ ap (hyperFrom (l .h)) (rest-end (tasksIn (c .before .before .before .args .tasks .now)) (l .i) (omega (arith, l .inv .0))) ∙ hyper-nil _) (l .inv .3)
+    hyper-accepted _ _ (l .inv .4 ∙ ap (hyperFrom (l .h)) (rest-end (tasksIn (c .before .before .before .args .gap) (c .before .before .before .args .tasks .now)) (l .i) (omega (arith, l .inv .0))) ∙ hyper-nil _) (l .inv .3)
 
 pub hyper-verdict-spec : {M : Type 1} → statement M
 hyper-verdict-spec =

@@ -1,53 +1,19 @@
 use native.Mathlib.Omega.{arith}
-use mathlib.Core.Path.{sym}
-use Rattle.chain.specs.Flat.{in-long, at-in}
-use borrow.Author.Needs.{needs}
+use mathlib.Core.Path.{sym, ap, _∙_}
+use lib.ListN.{length-map}
+use Rattle.task.specs.Jobs.{placeOf}
+use Rattle.chain.specs.Flat.{givenIn}
+use Rattle.chain.specs.Placed.{at-placed}
 use Rattle.chain.proofs.task_at.Statement.{statement}
 use Rattle.chain.proofs.task_at.Tie as tie
-use Rattle.chain.proofs.task_at.Reads as reads
-use Rattle.chain.proofs.task_at.Lts as lts
 
-mul-k : tie.Need-mul-k
-mul-k c = search needs
-
-mul-t4 : tie.Need-mul-t4
-mul-t4 c = search needs
-
-shared-slice-read-t6 : tie.Need-shared-slice-read-t6
-shared-slice-read-t6 c = let s = c .before in omega (arith, s .pre .0, in-long (s .args .tasks .now))
-
-add-t7 : tie.Need-add-t7
-add-t7 c = search needs
-
-mul-t8 : tie.Need-mul-t8
-mul-t8 c = search needs
-
-shared-slice-read-t10 : tie.Need-shared-slice-read-t10
-shared-slice-read-t10 c = let s = c .before .before in omega (arith, s .pre .0, in-long (s .args .tasks .now))
-
-add-t11 : tie.Need-add-t11
-add-t11 c = search needs
-
-mul-t12 : tie.Need-mul-t12
-mul-t12 c = search needs
-
-shared-slice-read-t14 : tie.Need-shared-slice-read-t14
-shared-slice-read-t14 c = let s = c .before .before .before in omega (arith, s .pre .0, in-long (s .args .tasks .now))
+given-at-requires : tie.Need-given-at-requires
+given-at-requires c κs = let s = c .before in (omega (arith, s .pre .0, length-map (givenIn (s .args .tasks .now)) (placeOf (s .args .gap))), s .pre .1)
 
 returns : tie.Need-returns
-returns c = sym (at-in _ _ (c .before .before .before .pre .0))
+returns c =
+    let s = c .before .before in
+    ap (placeOf (s .args .gap)) (c .given-at .ensures) ∙ sym (at-placed (s .args .gap) (givenIn (s .args .tasks .now)) (s .args .i) (omega (arith, s .pre .0, length-map (givenIn (s .args .tasks .now)) (placeOf (s .args .gap)))))
 
 pub task-at-spec : {M : Type 1} → statement M
-task-at-spec =
-    tie.close
-    (tie.spec
-    mul-k
-    mul-t4
-    shared-slice-read-t6
-    add-t7
-    mul-t8
-    shared-slice-read-t10
-    add-t11
-    mul-t12
-    shared-slice-read-t14
-    returns)
+task-at-spec = tie.close (tie.spec given-at-requires returns)

@@ -15,10 +15,10 @@ is-sound : (c : tie.Else1) → SoundSchedule (c .before .before .before .args .s
 is-sound c = sound (c .before .before .before .args .s) (ap (λ (x : Refusal). x .number) (sym (c .before .before .fault-of .ensures)) ∙ c .if1 .left)
 
 -- the length that the code works out
-whole : (c : tie.After-routes-length) → 18 * c .before .before .before .before .before .before .args .s .count + c .routes-length .result + 4 ≡ length (fileBytes (c .before .before .before .before .before .before .args .s))
+whole : (c : tie.After-gap-length) → 18 * c .before .before .before .before .before .before .before .args .s .count + c .before .routes-length .result + c .gap-length .result + 4 ≡ length (fileBytes (c .before .before .before .before .before .before .before .args .s))
 whole c =
-    let n : length (c .before .before .before .before .before .before .args .s .tasks) ≡ 32 = simp length-map at (c .before .before .before .before .before .before .good .0 .1 .1 .0 .1 .0 .1) in
-    omega (arith, file-long (c .before .before .before .before .before .before .args .s) n (is-sound (c .before .before .before) .few), c .routes-length .ensures .0)
+    let n : length (c .before .before .before .before .before .before .before .args .s .tasks) ≡ 32 = simp length-map at (c .before .before .before .before .before .before .before .good .0 .1 .1 .0 .1 .0 .1) in
+    omega (arith, file-long (c .before .before .before .before .before .before .before .args .s) n (is-sound (c .before .before .before .before) .few), c .before .routes-length .ensures .0, c .gap-length .ensures .0)
 
 returns : tie.Need-returns
 returns c = fault-refused (c .before .before .before .args .s) (c .before .before .before .args .lent) (c .before .before .fault-of .result) (c .before .before .fault-of .ensures) (c .if1 .taken)
@@ -32,14 +32,20 @@ routes-length-requires c κs = (is-sound (c .before .before) .few-chains, is-sou
 add-long : tie.Need-add-long
 add-long c = omega (arith, is-sound (c .before .before .before) .few, c .routes-length .ensures .1)
 
+gap-length-requires : tie.Need-gap-length-requires
+gap-length-requires c κs = search needs
+
 add-long-2 : tie.Need-add-long-2
-add-long-2 c = omega (arith, is-sound (c .before .before .before) .few, c .routes-length .ensures .1)
+add-long-2 c = omega (arith, is-sound (c .before .before .before .before) .few, c .before .routes-length .ensures .1, c .gap-length .ensures .1)
+
+add-long-3 : tie.Need-add-long-3
+add-long-3 c = omega (arith, is-sound (c .before .before .before .before) .few, c .before .routes-length .ensures .1, c .gap-length .ensures .1)
 
 returns-2 : tie.Need-returns-2
-returns-2 c = too-short (c .before .before .before .before .before .before .before .args .s) (c .before .before .before .before .before .before .before .args .lent) (c .before .before .before .before .before .before .fault-of .result) (c .before .before .before .before .before .before .fault-of .ensures) (c .before .before .before .before .if1 .left) _ (whole (c .before)) (c .if2 .taken)
+returns-2 c = too-short (c .before .before .before .before .before .before .before .before .args .s) (c .before .before .before .before .before .before .before .before .args .lent) (c .before .before .before .before .before .before .before .fault-of .result) (c .before .before .before .before .before .before .before .fault-of .ensures) (c .before .before .before .before .before .if1 .left) _ (whole (c .before)) (c .if2 .taken)
 
 returns-3 : tie.Need-returns-3
-returns-3 c = long-enough (c .before .before .before .before .before .before .before .args .s) (c .before .before .before .before .before .before .before .args .lent) (c .before .before .before .before .before .before .fault-of .result) (c .before .before .before .before .before .before .fault-of .ensures) (c .before .before .before .before .if1 .left) _ (whole (c .before)) (c .if2 .left)
+returns-3 c = long-enough (c .before .before .before .before .before .before .before .before .args .s) (c .before .before .before .before .before .before .before .before .args .lent) (c .before .before .before .before .before .before .before .fault-of .result) (c .before .before .before .before .before .before .before .fault-of .ensures) (c .before .before .before .before .before .if1 .left) _ (whole (c .before)) (c .if2 .left)
 
 fault-of-requires : tie.Need-fault-of-requires
 fault-of-requires c κs = search needs
@@ -53,6 +59,8 @@ judge-spec =
     mul-long
     routes-length-requires
     add-long
+    gap-length-requires
     add-long-2
+    add-long-3
     returns-2
     returns-3)

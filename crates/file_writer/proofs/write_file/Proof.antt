@@ -32,21 +32,28 @@ put-routes-requires c κs =
     let f = room (c .before .before .before .before .before .before .before) in
     (f .few-chains, f .placed, search needs)
 
-put-head-requires : tie.Need-put-head-requires
-put-head-requires c κs =
+put-gap-requires : tie.Need-put-gap-requires
+put-gap-requires c κs =
     let f = room (c .before .before .before .before .before .before .before .before .before .before .before) in
     let e = c .before .before .before .put-routes .ensures .1 in
     search needs
 
+put-head-requires : tie.Need-put-head-requires
+put-head-requires c κs =
+    let f = room (c .before .before .before .before .before .before .before .before .before .before .before .before .before .before .before) in
+    let e = c .before .before .before .before .before .before .before .put-routes .ensures .1 in
+    let g = c .before .before .before .put-gap .ensures .1 in
+    search needs
+
 returns-2 : tie.Need-returns-2
 returns-2 c =
-    let f = room (c .before .before .before .before .before .before .before .before .before .before .before .before .before .before) in
-    let w = sym (c .before .before .before .before .before .before .before .before .before .before .before .before .before .before .before .before .judge .ensures) ∙ c .before .before .before .before .before .before .before .before .before .before .before .before .before .before .enum-told2 .given .1 in
+    let f = room (c .before .before .before .before .before .before .before .before .before .before .before .before .before .before .before .before .before .before) in
+    let w = sym (c .before .before .before .before .before .before .before .before .before .before .before .before .before .before .before .before .before .before .before .before .judge .ensures) ∙ c .before .before .before .before .before .before .before .before .before .before .before .before .before .before .before .before .before .before .enum-told2 .given .1 in
     record {
-      answers = c .before .before .before .before .before .before .before .before .before .before .before .before .before .before .before .before .judge .ensures;
+      answers = c .before .before .before .before .before .before .before .before .before .before .before .before .before .before .before .before .before .before .before .before .judge .ensures;
       leaves = stored _ _ _ _ _ w
-          (file-stored (c .before .before .before .before .before .before .before .before .before .before .before .before .before .before .before .before .before .before .args .out .now) _ _ _ (tasksIn (c .before .before .before .before .before .before .before .before .before .before .before .before .before .before .before .before .before .before .args .s)) (chainsIn (c .before .before .before .before .before .before .before .before .before .before .before .before .before .before .before .before .before .before .args .s)) (18 * c .before .before .before .before .before .before .before .before .before .before .before .before .before .before .before .before .before .before .args .s .count) (c .before .before .before .before .before .before .put-routes .result) (f .whole) (f .counted) (c .before .before .before .before .before .before .put-routes .ensures .1)
-          (c .before .before .before .before .before .before .before .before .before .before .put-tasks .ensures) (c .before .before .before .before .before .before .put-routes .ensures .0) (c .before .before .put-head .ensures));
+          (file-stored (c .before .before .before .before .before .before .before .before .before .before .before .before .before .before .before .before .before .before .before .before .before .before .args .out .now) _ _ _ _ (tasksIn (c .before .before .before .before .before .before .before .before .before .before .before .before .before .before .before .before .before .before .before .before .before .before .args .s)) (chainsIn (c .before .before .before .before .before .before .before .before .before .before .before .before .before .before .before .before .before .before .before .before .before .before .args .s)) (c .before .before .before .before .before .before .before .before .before .before .before .before .before .before .before .before .before .before .before .before .before .before .args .s .gap) (18 * c .before .before .before .before .before .before .before .before .before .before .before .before .before .before .before .before .before .before .before .before .before .before .args .s .count) (c .before .before .before .before .before .before .before .before .before .before .put-routes .result) (c .before .before .before .before .before .before .put-gap .result) (f .whole) (f .counted) (c .before .before .before .before .before .before .before .before .before .before .put-routes .ensures .1) (c .before .before .before .before .before .before .put-gap .ensures .1)
+          (c .before .before .before .before .before .before .before .before .before .before .before .before .before .before .put-tasks .ensures) (c .before .before .before .before .before .before .before .before .before .before .put-routes .ensures .0) (c .before .before .before .before .before .before .put-gap .ensures .0) (c .before .before .put-head .ensures));
     }
 
 judge-requires : tie.Need-judge-requires
@@ -72,6 +79,7 @@ write-file-spec =
     put-tasks-requires
     mul-put-routes
     put-routes-requires
+    put-gap-requires
     put-head-requires
     same-length
     returns-2)

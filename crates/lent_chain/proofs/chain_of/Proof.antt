@@ -31,8 +31,8 @@ use sound.WpLaws.{FmC, fmOf, WpFn-mono}
 use denote.RattleType.{owns}
 use denote.Laws.{Is, shows}
 use denote.Memory.{pointee}
-use denote.Plain.{uint-makes, uint-tells, uint-lawful}
-use denote.Builtin.{usize}
+use denote.Plain.{uint-vals, uint-makes, uint-tells, uint-lawful}
+use denote.Builtin.{u64, usize}
 use denote.Ref.{RefT, now}
 use denote.Signature.{plain}
 use denote.Slice.{sliceTy, sliceVal, ShrSlice, slice-vals, shr-slice-tells, shr-slice-lawful, shr-slice-copy}
@@ -43,7 +43,7 @@ use denote.Triple.Call.{calls-at}
 use denote.Triple.Entry.{onEntry}
 use denote.Triple.Spec.{Meets, tripleOf}
 use denote.Triple.Table.{entered, cited}
-use denote.Triple.Walked.{says, Stays, stay-none-slice, walkOf, goes-none-slice, Walks, ends-at, walked, walk-meets}
+use denote.Triple.Walked.{says, Stays, stay-none-slice, stay-none, walkOf, goes-none-slice, goes-none, Walks, ends-at, walked, walk-meets}
 use denote.Triple.Clauses.{ensured, lasts}
 use denote.Exit.{yes}
 use Rattle.task.specs.declared.Task.{Task}
@@ -78,7 +78,7 @@ use Rattle.lent_chain.proofs.chain_of.Code as code
 use Rattle.lent_chain.proofs.chain_of.Code.Mir as code-mir
 
 abbrev stayed : Stays (f.ended .signature .params) (f.ended .kept)
-stayed = (stay-none-slice (0 ∷ []) tt (plain (λ _. T.the-row)) yes, tt)
+stayed = (stay-none-slice (0 ∷ []) tt (plain (λ _. T.the-row)) yes, (stay-none (λ _. u64) yes, tt))
 
 abbrev word : Ty
 word = tyInt w64
@@ -104,7 +104,7 @@ module _ {M : Type 1} (𝓤 : URA M) (H : Heap 𝓤) (A : Atoms 𝓤) (mem : Mem
   abbrev Empty : Contract 𝓤
   Empty = tripleOf 𝓤 H A empty.signature (empty.spec 𝓤 H A mem run)
 
-module _ {M : Type 1} (𝓤 : URA M) (H : Heap 𝓤) (A : Atoms 𝓤) (W : Given 𝓤 H A) (mem : Memory → SProp 𝓤) (run : Routine → Fun 𝓤) (κ : Lft) (q : Share) (s : RefT (List Task)) (n-fits : length (s .now) < 2 ^ 64) where
+module _ {M : Type 1} (𝓤 : URA M) (H : Heap 𝓤) (A : Atoms 𝓤) (W : Given 𝓤 H A) (mem : Memory → SProp 𝓤) (run : Routine → Fun 𝓤) (κ : Lft) (q : Share) (s : RefT (List Task)) (n-fits : length (s .now) < 2 ^ 64) (g : ℕ) (g-fits : g < 2 ^ 64) where
   abbrev ts : List Task
   ts = s .now
 
@@ -116,13 +116,17 @@ module _ {M : Type 1} (𝓤 : URA M) (H : Heap 𝓤) (A : Atoms 𝓤) (W : Given
 
   -- the chain while k tasks are copied
   abbrev upTo : ℕ → Chain
-  upTo k = copied k ts
+  upTo k = copied g k ts
 
   abbrev v : Val
   v = sliceVal (s .ptr) n
 
+  -- the gap
+  abbrev vg : Val
+  vg = vint w64 g
+
   abbrev Post : Val → SProp 𝓤
-  Post = walkOf 𝓤 H A f.ended stayed (f.clauses 𝓤 H A mem run) .post (((κ, tt), (q, tt), tt, (s, tt), (v ∷ [], tt)), tt)
+  Post = walkOf 𝓤 H A f.ended stayed (f.clauses 𝓤 H A mem run) .post (((κ, tt), (q, tt), tt, (s, (g, tt)), (v ∷ [], (vg ∷ [], tt))), tt)
 
   abbrev Own : Fml
   Own = ShrSlice (named 0) κ T.the-row .own s (v ∷ [])
@@ -134,11 +138,11 @@ module _ {M : Type 1} (𝓤 : URA M) (H : Heap 𝓤) (A : Atoms 𝓤) (W : Given
   abbrev Whole : Chain → Type 0
   Whole c = Is Ch.the-row c (cv c ∷ [])
 
-  exits : (c : Chain) → Whole c → c ≡ chainOfList ts → ent 𝓤 (⋆ 𝓤 H A (‵ Own ∷ Token ∷ [])) (Post (cv c))
+  exits : (c : Chain) → Whole c → c ≡ chainOfList g ts → ent 𝓤 (⋆ 𝓤 H A (‵ Own ∷ Token ∷ [])) (Post (cv c))
   exits c is e =
       qed W (‵ Own ∷ Token ∷ []) ∵
-      suffices ! _ (ends-at 𝓤 H A f.ended stayed (f.clauses 𝓤 H A mem run) W (((κ, tt), (q, tt), tt, (s, tt), (v ∷ [], tt)), tt) (cv c) c (tt, tt) (tt, tt)) $ says ! e $
-      owned ! Ch.the-row (Is Ch.the-row) (LL.makes Ch.the-type Ch′.the-plain 𝓤 H A) c _ is $ move ! (2 ∷ []) $ frame ! $ nothing ! $ move ! (2 ∷ 0 ∷ []) $ fjoin ! $ frame ! $ done !
+      suffices ! _ (ends-at 𝓤 H A f.ended stayed (f.clauses 𝓤 H A mem run) W (((κ, tt), (q, tt), tt, (s, (g, tt)), (v ∷ [], (vg ∷ [], tt))), tt) (cv c) c (tt, (tt, tt)) (tt, (tt, tt))) $ says ! e $
+      owned ! Ch.the-row (Is Ch.the-row) (LL.makes Ch.the-type Ch′.the-plain 𝓤 H A) c _ is $ move ! (2 ∷ []) $ frame ! $ nothing ! $ owned ! u64 (Is u64) (uint-makes 𝓤 H A W w64) g _ (refl, g-fits) $ fjoin ! $ move ! (2 ∷ 0 ∷ []) $ fjoin ! $ frame ! $ done !
 
   -- the call of `task_at`
   abbrev to-task : ℕ → TaskAt 𝓤 H A mem run .Ghost
@@ -176,13 +180,13 @@ module _ {M : Type 1} (𝓤 : URA M) (H : Heap 𝓤) (A : Atoms 𝓤) (W : Given
   most-said r = exE 𝓤 _ (λ ws. snd∗ 𝓤 (sem 𝓤 H A (lasts most.ended tt (n, tt) ws)) (fact 𝓤 (r ≡ m)))
 
   abbrev to-empty : Empty 𝓤 H A mem run .Ghost
-  to-empty = ((tt, tt, tt, (n, tt), (vint w64 n ∷ [], tt)), tt)
+  to-empty = ((tt, tt, tt, (n, (g, tt)), (vint w64 n ∷ [], (vg ∷ [], tt))), tt)
 
   goes-empty : ent 𝓤 (emp 𝓤) (Empty 𝓤 H A mem run .pre to-empty)
-  goes-empty = qed W [] ∵ nothing ! $ nothing ! $ owned ! usize (Is usize) (uint-makes 𝓤 H A W w64) n _ (refl, n-fits) $ fjoin ! $ nothing ! $ join ! $ frame ! $ done !
+  goes-empty = qed W [] ∵ nothing ! $ nothing ! $ owned ! u64 (Is u64) (uint-makes 𝓤 H A W w64) g _ (refl, g-fits) $ fjoin ! $ owned ! usize (Is usize) (uint-makes 𝓤 H A W w64) n _ (refl, n-fits) $ fjoin ! $ nothing ! $ join ! $ frame ! $ done !
 
-  empty-said : (c : Chain) → ent 𝓤 (ensured 𝓤 H A empty.ended (empty.clauses 𝓤 H A mem run) tt (n, tt) tt c) (fact 𝓤 (c ≡ emptyChain n))
-  empty-said c = exE 𝓤 _ (λ ws. snd∗ 𝓤 (sem 𝓤 H A (lasts empty.ended tt (n, tt) ws)) (fact 𝓤 (c ≡ emptyChain n)))
+  empty-said : (c : Chain) → ent 𝓤 (ensured 𝓤 H A empty.ended (empty.clauses 𝓤 H A mem run) tt (n, (g, tt)) tt c) (fact 𝓤 (c ≡ emptyChain n g))
+  empty-said c = exE 𝓤 _ (λ ws. snd∗ 𝓤 (sem 𝓤 H A (lasts empty.ended tt (n, (g, tt)) ws)) (fact 𝓤 (c ≡ emptyChain n g)))
 
   -- a chain that a call gave has its machine value
   spelt : (c d : Chain) (u : Val) → Is Ch.the-row c (u ∷ []) → c ≡ d → (u ≡ cv d) × Whole d
@@ -206,7 +210,7 @@ module _ {M : Type 1} (𝓤 : URA M) (H : Heap 𝓤) (A : Atoms 𝓤) (W : Given
   m-twelve : m ≤ 12
   m-twelve = min-le-right n 12
 
-  module _ (𝓣 : Tables 𝓤 H) (fm : FmC 𝓤 H (W .laws) (𝓣 .C)) (known-task : Triple 𝓤 (𝓣 .C #lent_chain·task-at) (TaskAt 𝓤 H A mem run)) (known-with : Triple 𝓤 (𝓣 .C #lent_chain·with-task) (With 𝓤 H A mem run)) (l₀ l₁ l₂ l₃ l₄ l₅ l₆ l₇ : ℕ) where
+  module _ (𝓣 : Tables 𝓤 H) (fm : FmC 𝓤 H (W .laws) (𝓣 .C)) (known-task : Triple 𝓤 (𝓣 .C #lent_chain·task-at) (TaskAt 𝓤 H A mem run)) (known-with : Triple 𝓤 (𝓣 .C #lent_chain·with-task) (With 𝓤 H A mem run)) (l₀ l₁ lg l₂ l₃ l₄ l₅ l₆ l₇ : ℕ) where
     abbrev C : Calls 𝓤 H
     C = 𝓣 .C
 
@@ -214,13 +218,13 @@ module _ {M : Type 1} (𝓤 : URA M) (H : Heap 𝓤) (A : Atoms 𝓤) (W : Given
     Λ = 𝓣 .Λ
 
     abbrev En : Env 𝓤 H
-    En = (Ch′.mir, l₀) ∷ (slice, l₁) ∷ (word, l₂) ∷ (word, l₃) ∷ (Ch′.mir, l₄) ∷ (word, l₅) ∷ (T′.mir, l₆) ∷ (tyBool, l₇) ∷ []
+    En = (Ch′.mir, l₀) ∷ (slice, l₁) ∷ (word, lg) ∷ (word, l₂) ∷ (word, l₃) ∷ (Ch′.mir, l₄) ∷ (word, l₅) ∷ (T′.mir, l₆) ∷ (tyBool, l₇) ∷ []
 
     -- the locals, of which _2 to _5 change before the loop, and what the slice owns with the token
     abbrev Ctx : Item 𝓤 → Item 𝓤 → Item 𝓤 → Item 𝓤 → List (Item 𝓤)
     Ctx i₅ i₄ i₃ i₂ = ‵ (froom tyBool l₇ 0) ∷ ‵ (fdies tyBool l₇) ∷ ‵ (froom T′.mir l₆ 0) ∷ ‵ (fdies T′.mir l₆) ∷ i₅ ∷ ‵ (fdies word l₅)
         ∷ i₄ ∷ ‵ (fdies Ch′.mir l₄) ∷ i₃ ∷ ‵ (fdies word l₃) ∷ i₂ ∷ ‵ (fdies word l₂)
-        ∷ ‵ (fat fullShare slice l₁ 0 v) ∷ ‵ (fdies slice l₁) ∷ ‵ (froom Ch′.mir l₀ 0) ∷ ‵ (fdies Ch′.mir l₀) ∷ ‵ Own ∷ Token ∷ []
+        ∷ ‵ (fat fullShare word lg 0 vg) ∷ ‵ (fdies word lg) ∷ ‵ (fat fullShare slice l₁ 0 v) ∷ ‵ (fdies slice l₁) ∷ ‵ (froom Ch′.mir l₀ 0) ∷ ‵ (fdies Ch′.mir l₀) ∷ ‵ Own ∷ Token ∷ []
 
     abbrev At : Upto → List (Item 𝓤)
     At x = Ctx (‵ (fat fullShare word l₅ 0 (vint w64 (x .0)))) (‵ (fat fullShare Ch′.mir l₄ 0 (cv (upTo (x .0))))) (‵ (fat fullShare word l₃ 0 (vint w64 m))) (‵ (fat fullShare word l₂ 0 (vint w64 n)))
@@ -234,9 +238,9 @@ module _ {M : Type 1} (𝓤 : URA M) (H : Heap 𝓤) (A : Atoms 𝓤) (W : Given
         assigns ! (bin ! (load ! (from ! (stop !)) (look ! 4 refl)) (load ! (from ! (stop !)) (look ! 8 refl)) tt) (from ! (stop !)) (init ! 0 refl (tt, tt)) $
         rewrite ! 0 (λ (t : Bool). ‵ (fat fullShare tyBool l₇ 0 (vbool t))) e refl $
         stays ! (load ! (from ! (stop !)) (look ! 0 refl)) $
-        move ! (16 ∷ 17 ∷ []) $ use2 W (raw (TaskAt 𝓤 H A mem run .pre (to-task i)) ⊛ ‵ Own) (goes-task i (omega (arith, less, m-n)) (omega (arith, less, m-twelve))) $ split ! $
+        move ! (18 ∷ 19 ∷ []) $ use2 W (raw (TaskAt 𝓤 H A mem run .pre (to-task i)) ⊛ ‵ Own) (goes-task i (omega (arith, less, m-n)) (omega (arith, less, m-twelve))) $ split ! $
         -- [what `task_at` asks; Own; _7; …; _0; …]
-        calls-at ! fm (TaskAt 𝓤 H A mem run) known-task (to-task i) (and-then ! (load ! (from ! (stop !)) (look ! 14 refl)) (and-then ! (load ! (from ! (stop !)) (look ! 6 refl)) (no-more !))) (λ u.
+        calls-at ! fm (TaskAt 𝓤 H A mem run) known-task (to-task i) (and-then ! (load ! (from ! (stop !)) (look ! 16 refl)) (and-then ! (load ! (from ! (stop !)) (look ! 6 refl)) (no-more !))) (λ u.
         use1 W (later (some (λ (r : Task). (Token ⊛ ‵ (T.the-row .own r (u ∷ []))) ⊛ raw (ensured 𝓤 H A task-at.ended (task-at.clauses 𝓤 H A mem run) (κ, tt) (s, (i, tt)) tt r)))) (id⊢ 𝓤 _) $ await ! tt $ pick ! (λ r.
         split ! $ move ! (1 ∷ []) $ use1 W (raw (fact 𝓤 (r ≡ getD ts i zeroTask))) (task-said i r) $ heard ! (r ≡ getD ts i zeroTask) (λ e₁. split ! $ move ! (1 ∷ []) $
         -- [what the task owns; the token; Own; _7; …; _0; …]
@@ -253,7 +257,7 @@ module _ {M : Type 1} (𝓤 : URA M) (H : Heap 𝓤) (A : Atoms 𝓤) (W : Given
         assigns-last ! (bin ! (load ! (from ! (stop !)) (look ! 6 refl)) (lit ! tt) next-fits) (from ! (stop !)) (store ! 6 refl (tt, next-fits)) $
         forget ! 2 refl $ forget ! 4 refl $
         rewrite ! 8 (λ (c : Val). ‵ (fat fullShare Ch′.mir l₄ 0 c)) (after r d w is′ e₁ e₂ .0) refl $
-        keep ! (2 ∷ 3 ∷ 4 ∷ 5 ∷ 6 ∷ 7 ∷ 8 ∷ 9 ∷ 10 ∷ 11 ∷ 12 ∷ 13 ∷ 14 ∷ 15 ∷ 16 ∷ 17 ∷ 1 ∷ 0 ∷ []) $ again ! Nearer At x (i + 1, omega (arith, less), after r d w is′ e₁ e₂ .1) (add-one-dec m i less)))))))))
+        keep ! (2 ∷ 3 ∷ 4 ∷ 5 ∷ 6 ∷ 7 ∷ 8 ∷ 9 ∷ 10 ∷ 11 ∷ 12 ∷ 13 ∷ 14 ∷ 15 ∷ 16 ∷ 17 ∷ 18 ∷ 19 ∷ 1 ∷ 0 ∷ []) $ again ! Nearer At x (i + 1, omega (arith, less), after r d w is′ e₁ e₂ .1) (add-one-dec m i less)))))))))
       where
         i : ℕ
         i = x .0
@@ -265,15 +269,15 @@ module _ {M : Type 1} (𝓤 : URA M) (H : Heap 𝓤) (A : Atoms 𝓤) (W : Given
         next-fits = omega (arith, less, m-twelve)
 
         after : (r : Task) (d : Chain) (w : Val) → Is Ch.the-row d (w ∷ []) → r ≡ getD ts (x .0) zeroTask → d ≡ withTask (upTo (x .0)) (x .0) r → (w ≡ cv (upTo (x .0 + 1))) × Whole (upTo (x .0 + 1))
-        after r d w is e₁ e₂ = spelt d (upTo (x .0 + 1)) w is (e₂ ∙ ap (withTask (upTo (x .0)) (x .0)) e₁ ∙ copied-next ts (x .0) (omega (arith, less, m-n)) (omega (arith, less, m-twelve)))
+        after r d w is e₁ e₂ = spelt d (upTo (x .0 + 1)) w is (e₂ ∙ ap (withTask (upTo (x .0)) (x .0)) e₁ ∙ copied-next g ts (x .0) (omega (arith, less, m-n)) (omega (arith, less, m-twelve)))
     turn-by x false e =
         assigns ! (bin ! (load ! (from ! (stop !)) (look ! 4 refl)) (load ! (from ! (stop !)) (look ! 8 refl)) tt) (from ! (stop !)) (init ! 0 refl (tt, tt)) $
         rewrite ! 0 (λ (t : Bool). ‵ (fat fullShare tyBool l₇ 0 (vbool t))) e refl $
         leaves-loop ! (load ! (from ! (stop !)) (look ! 0 refl)) $ exec ! C Λ En code-mir.t-6 (atRet En Post) $
-        assigns ! (of-opd ! (load ! (from ! (stop !)) (look ! 6 refl))) (from ! (stop !)) (init ! 14 refl (LL.lawful Ch.the-type Ch′.the-laws 𝓤 H A W .typed (upTo (x .0)) _ (x .2) .0)) $
-        returns ! (look ! 14 refl) $ forget ! 0 refl $ forget ! 4 refl $ forget ! 6 refl $ forget ! 8 refl $ forget ! 10 refl $ forget ! 12 refl $ forget ! 14 refl $
-        move ! (14 ∷ 15 ∷ []) $ free1 ! $ move ! (12 ∷ 13 ∷ []) $ free1 ! $ move ! (10 ∷ 11 ∷ []) $ free1 ! $ move ! (8 ∷ 9 ∷ []) $ free1 ! $ move ! (6 ∷ 7 ∷ []) $ free1 ! $ move ! (4 ∷ 5 ∷ []) $ free1 ! $ move ! (2 ∷ 3 ∷ []) $ free1 ! $ free1 ! $ free0 ! $
-        by ! (exits (upTo (x .0)) (x .2) (ap upTo (le-antisymm (x .1) (ltb-false _ _ e)) ∙ copied-all ts))
+        assigns ! (of-opd ! (load ! (from ! (stop !)) (look ! 6 refl))) (from ! (stop !)) (init ! 16 refl (LL.lawful Ch.the-type Ch′.the-laws 𝓤 H A W .typed (upTo (x .0)) _ (x .2) .0)) $
+        returns ! (look ! 16 refl) $ forget ! 0 refl $ forget ! 4 refl $ forget ! 6 refl $ forget ! 8 refl $ forget ! 10 refl $ forget ! 12 refl $ forget ! 14 refl $ forget ! 16 refl $
+        move ! (16 ∷ 17 ∷ []) $ free1 ! $ move ! (14 ∷ 15 ∷ []) $ free1 ! $ move ! (12 ∷ 13 ∷ []) $ free1 ! $ move ! (10 ∷ 11 ∷ []) $ free1 ! $ move ! (8 ∷ 9 ∷ []) $ free1 ! $ move ! (6 ∷ 7 ∷ []) $ free1 ! $ move ! (4 ∷ 5 ∷ []) $ free1 ! $ move ! (2 ∷ 3 ∷ []) $ free1 ! $ free1 ! $ free0 ! $
+        by ! (exits (upTo (x .0)) (x .2) (ap upTo (le-antisymm (x .1) (ltb-false _ _ e)) ∙ copied-all g ts))
 
     turns : (x : Upto) → Sq W (At x) (runs C Λ En code-mir.turn-1 (anyQ (Turned x)))
     turns x = turn-by x (ltb (x .0) m) refl
@@ -303,13 +307,13 @@ module _ {M : Type 1} (𝓤 : URA M) (H : Heap 𝓤) (A : Atoms 𝓤) (W : Given
     from-3 : Triple 𝓤 (C #lent_chain·empty) (Empty 𝓤 H A mem run) → Sq W (Ctx r₅ r₄ a₃ a₂) (runs C Λ En code-mir.t-3 (atRet En Post))
     from-3 known =
         use0 W (raw (Empty 𝓤 H A mem run .pre to-empty)) goes-empty $
-        calls-at ! fm (Empty 𝓤 H A mem run) known to-empty (and-then ! (load ! (from ! (stop !)) (look ! 11 refl)) (no-more !)) (λ w.
-        use1 W (later (some (λ (c : Chain). (‵ ftrue ⊛ ‵ (Ch.the-row .own c (w ∷ []))) ⊛ raw (ensured 𝓤 H A empty.ended (empty.clauses 𝓤 H A mem run) tt (n, tt) tt c)))) (id⊢ 𝓤 _) $ await ! tt $ pick ! (λ c.
-        split ! $ move ! (1 ∷ []) $ use1 W (raw (fact 𝓤 (c ≡ emptyChain n))) (empty-said c) $ heard ! (c ≡ emptyChain n) (λ e. split ! $ drop ! $
+        calls-at ! fm (Empty 𝓤 H A mem run) known to-empty (and-then ! (load ! (from ! (stop !)) (look ! 11 refl)) (and-then ! (load ! (from ! (stop !)) (look ! 13 refl)) (no-more !))) (λ w.
+        use1 W (later (some (λ (c : Chain). (‵ ftrue ⊛ ‵ (Ch.the-row .own c (w ∷ []))) ⊛ raw (ensured 𝓤 H A empty.ended (empty.clauses 𝓤 H A mem run) tt (n, (g, tt)) tt c)))) (id⊢ 𝓤 _) $ await ! tt $ pick ! (λ c.
+        split ! $ move ! (1 ∷ []) $ use1 W (raw (fact 𝓤 (c ≡ emptyChain n g))) (empty-said c) $ heard ! (c ≡ emptyChain n g) (λ e. split ! $ drop ! $
         peeks ! Ch.the-row (Is Ch.the-row) (shows 𝓤 H A Ch.the-row) c (w ∷ []) (λ is.
         land ! (from ! (stop !)) (init ! 7 refl (LL.lawful Ch.the-type Ch′.the-laws 𝓤 H A W .typed c _ is .0)) $ drop ! $
-        rewrite ! 6 (λ (x : Val). ‵ (fat fullShare Ch′.mir l₄ 0 x)) (spelt c (upTo 0) w is (e ∙ copied-none ts) .0) refl $
-        from-4 (spelt c (upTo 0) w is (e ∙ copied-none ts) .1)))))
+        rewrite ! 6 (λ (x : Val). ‵ (fat fullShare Ch′.mir l₄ 0 x)) (spelt c (upTo 0) w is (e ∙ copied-none g ts) .0) refl $
+        from-4 (spelt c (upTo 0) w is (e ∙ copied-none g ts) .1)))))
 
     -- from the call of `at_most_twelve` on
     from-2 : Triple 𝓤 (C #lent_chain·most) (Most 𝓤 H A mem run) → Triple 𝓤 (C #lent_chain·empty) (Empty 𝓤 H A mem run) → Sq W (Ctx r₅ r₄ r₃ a₂) (runs C Λ En code-mir.t-2 (atRet En Post))
@@ -325,24 +329,24 @@ module _ {M : Type 1} (𝓤 : URA M) (H : Heap 𝓤) (A : Atoms 𝓤) (W : Given
     -- the whole body
     from-1 : Triple 𝓤 (C #lent_chain·most) (Most 𝓤 H A mem run) → Triple 𝓤 (C #lent_chain·empty) (Empty 𝓤 H A mem run) → Sq W (Ctx r₅ r₄ r₃ (‵ (froom word l₂ 0))) (runs C Λ En code-mir.t-1 (atRet En Post))
     from-1 known known-empty =
-        assigns ! (of-opd ! (load ! (from ! (fld ! refl (stop !))) (look-in ! 12 (sub ! 1 refl (whole !))))) (from ! (stop !)) (init ! 10 refl (tt, record { fits = n-fits })) $ from-2 known known-empty
+        assigns ! (of-opd ! (load ! (from ! (fld ! refl (stop !))) (look-in ! 14 (sub ! 1 refl (whole !))))) (from ! (stop !)) (init ! 10 refl (tt, record { fits = n-fits })) $ from-2 known known-empty
 
   module _ (𝓣 : Tables 𝓤 H) (fm : FmC 𝓤 H (W .laws) (𝓣 .C)) (known-task : Triple 𝓤 (𝓣 .C #lent_chain·task-at) (TaskAt 𝓤 H A mem run)) (known-with : Triple 𝓤 (𝓣 .C #lent_chain·with-task) (With 𝓤 H A mem run)) (known-most : Triple 𝓤 (𝓣 .C #lent_chain·most) (Most 𝓤 H A mem run)) (known-empty : Triple 𝓤 (𝓣 .C #lent_chain·empty) (Empty 𝓤 H A mem run)) where
-    walk : Is (ShrSlice (named 0) κ T.the-row) s (v ∷ []) → ent 𝓤 (onEntry 𝓤 H A f.signature (κ, tt) (q, tt) (s, tt) (v ∷ [], tt)) (WpFn 𝓤 H (𝓣 .C) (𝓣 .Λ) code.function (v ∷ []) Post)
+    walk : Is (ShrSlice (named 0) κ T.the-row) s (v ∷ []) → ent 𝓤 (onEntry 𝓤 H A f.signature (κ, tt) (q, tt) (s, (g, tt)) (v ∷ [], (vg ∷ [], tt))) (WpFn 𝓤 H (𝓣 .C) (𝓣 .Λ) code.function (v ∷ vg ∷ []) Post)
     walk p =
-        qed W (Token ∷ ‵ (owns (ShrSlice (named 0) κ T.the-row ∷ []) (s, tt) (v ∷ [], tt)) ∷ []) ∵ enter ! (𝓣 .C) (𝓣 .Λ) code.function (v ∷ []) _ $
-        alloc1 ! (λ l₀. alloc1 ! (λ l₁. alloc1 ! (λ l₂. alloc1 ! (λ l₃. alloc1 ! (λ l₄. alloc1 ! (λ l₅. alloc1 ! (λ l₆. alloc1 ! (λ l₇. alloc0 ! $ params1 ! $
-        pass1 ! (init ! 12 refl (shr-slice-lawful 𝓤 H A W (named 0) κ T.the-row .typed s (v ∷ []) p .0)) $ pass0 ! $
-        move ! (17 ∷ []) $ fsplit ! $ keep ! (2 ∷ 3 ∷ 4 ∷ 5 ∷ 6 ∷ 7 ∷ 8 ∷ 9 ∷ 10 ∷ 11 ∷ 12 ∷ 13 ∷ 14 ∷ 15 ∷ 16 ∷ 17 ∷ 0 ∷ 18 ∷ []) $
-        from-1 𝓣 fm known-task known-with l₀ l₁ l₂ l₃ l₄ l₅ l₆ l₇ known-most known-empty))))))))
+        qed W (Token ∷ ‵ (owns (ShrSlice (named 0) κ T.the-row ∷ u64 ∷ []) (s, (g, tt)) (v ∷ [], (vg ∷ [], tt))) ∷ []) ∵ enter ! (𝓣 .C) (𝓣 .Λ) code.function (v ∷ vg ∷ []) _ $
+        alloc1 ! (λ l₀. alloc1 ! (λ l₁. alloc1 ! (λ lg. alloc1 ! (λ l₂. alloc1 ! (λ l₃. alloc1 ! (λ l₄. alloc1 ! (λ l₅. alloc1 ! (λ l₆. alloc1 ! (λ l₇. alloc0 ! $ params1 ! $
+        pass1 ! (init ! 14 refl (shr-slice-lawful 𝓤 H A W (named 0) κ T.the-row .typed s (v ∷ []) p .0)) $ pass1 ! (init ! 12 refl (tt, record { fits = g-fits })) $ pass0 ! $
+        move ! (19 ∷ []) $ fsplit ! $ keep ! (2 ∷ 3 ∷ 4 ∷ 5 ∷ 6 ∷ 7 ∷ 8 ∷ 9 ∷ 10 ∷ 11 ∷ 12 ∷ 13 ∷ 14 ∷ 15 ∷ 16 ∷ 17 ∷ 18 ∷ 19 ∷ 0 ∷ 20 ∷ []) $
+        from-1 𝓣 fm known-task known-with l₀ l₁ lg l₂ l₃ l₄ l₅ l₆ l₇ known-most known-empty)))))))))
 
 module _ {M : Type 1} (𝓤 : URA M) (H : Heap 𝓤) (A : Atoms 𝓤) (W : Given 𝓤 H A) (mem : Memory → SProp 𝓤) (run : Routine → Fun 𝓤) (𝓣 : Tables 𝓤 H) (known-task : Triple 𝓤 (𝓣 .C #lent_chain·task-at) (TaskAt 𝓤 H A mem run)) (known-with : Triple 𝓤 (𝓣 .C #lent_chain·with-task) (With 𝓤 H A mem run)) (known-most : Triple 𝓤 (𝓣 .C #lent_chain·most) (Most 𝓤 H A mem run)) (known-empty : Triple 𝓤 (𝓣 .C #lent_chain·empty) (Empty 𝓤 H A mem run)) where
   f-walks : Walks 𝓤 H A f.ended stayed (WpFn 𝓤 H (𝓣 .C) (𝓣 .Λ) code.function) (f.clauses 𝓤 H A mem run)
-  f-walks = walked 𝓤 H A f.ended stayed (f.clauses 𝓤 H A mem run) (WpFn 𝓤 H (𝓣 .C) (𝓣 .Λ) code.function) (λ κs. (slice-vals, tt)) (λ κs. (shr-slice-tells (named 0) (κs .0) T.the-row, tt))
-      (λ κs qs bounds a g are. via 𝓤 _ (fst∗ 𝓤 _ (emp 𝓤)) (walk 𝓤 H A W mem run (κs .0) (qs .0) (a .0) (are .0 .0 .1 .0) 𝓣 (fmOf 𝓤 H (W .laws) 𝓣) known-task known-with known-most known-empty (are .0)))
+  f-walks = walked 𝓤 H A f.ended stayed (f.clauses 𝓤 H A mem run) (WpFn 𝓤 H (𝓣 .C) (𝓣 .Λ) code.function) (λ κs. (slice-vals, (uint-vals w64, tt))) (λ κs. (shr-slice-tells (named 0) (κs .0) T.the-row, (uint-tells w64, tt)))
+      (λ κs qs bounds a g are. via 𝓤 _ (fst∗ 𝓤 _ (emp 𝓤)) (walk 𝓤 H A W mem run (κs .0) (qs .0) (a .0) (are .0 .0 .1 .0) (a .1 .0) (are .1 .0 .1) 𝓣 (fmOf 𝓤 H (W .laws) 𝓣) known-task known-with known-most known-empty (are .0)))
 
   f-meets : Meets 𝓤 H A f.signature (WpFn 𝓤 H (𝓣 .C) (𝓣 .Λ) code.function) (f.spec 𝓤 H A mem run)
-  f-meets = walk-meets 𝓤 H A f.ended stayed W (goes-none-slice 𝓤 H A W 1 (0 ∷ []) tt (plain (λ _. T.the-row)) yes, tt) (f.clauses 𝓤 H A mem run) (WpFn 𝓤 H (𝓣 .C) (𝓣 .Λ) code.function) (WpFn-mono 𝓤 H (W .laws) 𝓣 code.function) f-walks
+  f-meets = walk-meets 𝓤 H A f.ended stayed W (goes-none-slice 𝓤 H A W 1 (0 ∷ []) tt (plain (λ _. T.the-row)) yes, (goes-none 𝓤 H A W 1 (λ _. u64) yes (λ κs x f. refl), tt)) (f.clauses 𝓤 H A mem run) (WpFn 𝓤 H (𝓣 .C) (𝓣 .Λ) code.function) (WpFn-mono 𝓤 H (W .laws) 𝓣 code.function) f-walks
 
 pub chain-of-spec : {M : Type 1} → stated.statement M
 unfolding code.routine tablesOf

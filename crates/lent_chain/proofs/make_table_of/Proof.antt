@@ -62,7 +62,7 @@ use Rattle.lent_chain.proofs.make_table_of.Statement as stated
 use Rattle.lent_chain.proofs.make_table_of.Code as code
 
 abbrev stayed : Stays (f.ended .signature .params) (f.ended .kept)
-stayed = (stay-none-slice (0 ∷ []) tt (plain (λ _. T.the-row)) yes, (stay-none (λ _. usize) yes, (gave-slice (1 ∷ []) tt (plain (λ _. u64)), (gave-slice (2 ∷ []) tt (plain (λ _. u64)), tt))))
+stayed = (stay-none-slice (0 ∷ []) tt (plain (λ _. T.the-row)) yes, (stay-none (λ _. u64) yes, (stay-none (λ _. usize) yes, (gave-slice (1 ∷ []) tt (plain (λ _. u64)), (gave-slice (2 ∷ []) tt (plain (λ _. u64)), tt)))))
 
 module _ {M : Type 1} (𝓤 : URA M) (H : Heap 𝓤) (A : Atoms 𝓤) (mem : Memory → SProp 𝓤) (run : Routine → Fun 𝓤) where
   -- the contracts that the proof cites
@@ -72,12 +72,15 @@ module _ {M : Type 1} (𝓤 : URA M) (H : Heap 𝓤) (A : Atoms 𝓤) (mem : Mem
   abbrev Make : Contract 𝓤
   Make = tripleOf 𝓤 H A make-table.signature (make-table.spec 𝓤 H A mem run)
 
-module _ {M : Type 1} (𝓤 : URA M) (H : Heap 𝓤) (A : Atoms 𝓤) (W : Given 𝓤 H A) (mem : Memory → SProp 𝓤) (run : Routine → Fun 𝓤) (κ₀ κ₁ κ₂ : Lft) (q₀ q₁ q₂ : Share) (s : RefT (List Task)) (p : ℕ) (p-fits : p < 2 ^ 64) (x y : RefT (List ℕ)) where
+module _ {M : Type 1} (𝓤 : URA M) (H : Heap 𝓤) (A : Atoms 𝓤) (W : Given 𝓤 H A) (mem : Memory → SProp 𝓤) (run : Routine → Fun 𝓤) (κ₀ κ₁ κ₂ : Lft) (q₀ q₁ q₂ : Share) (s : RefT (List Task)) (g : ℕ) (g-fits : g < 2 ^ 64) (p : ℕ) (p-fits : p < 2 ^ 64) (x y : RefT (List ℕ)) where
   abbrev κs : Lfts 3
   κs = (κ₀, (κ₁, (κ₂, tt)))
 
   abbrev vs : Val
   vs = sliceVal (s .ptr) (length (s .now))
+
+  abbrev vg : Val
+  vg = vint w64 g
 
   abbrev vp : Val
   vp = vint w64 p
@@ -89,13 +92,13 @@ module _ {M : Type 1} (𝓤 : URA M) (H : Heap 𝓤) (A : Atoms 𝓤) (W : Given
   vy = sliceVal (y .ptr) (length (y .now))
 
   abbrev at : Vals f.signature κs
-  at = (vs ∷ [], (vp ∷ [], (vx ∷ [], (vy ∷ [], tt))))
+  at = (vs ∷ [], (vg ∷ [], (vp ∷ [], (vx ∷ [], (vy ∷ [], tt)))))
 
   abbrev made : Chain
-  made = chainOfList (s .now)
+  made = chainOfList g (s .now)
 
   abbrev Post : Val → SProp 𝓤
-  Post = walkOf 𝓤 H A f.ended stayed (f.clauses 𝓤 H A mem run) .post ((κs, (q₀, (q₁, (q₂, tt))), tt, (s, (p, (x, (y, tt)))), at), tt)
+  Post = walkOf 𝓤 H A f.ended stayed (f.clauses 𝓤 H A mem run) .post ((κs, (q₀, (q₁, (q₂, tt))), tt, (s, (g, (p, (x, (y, tt))))), at), tt)
 
   abbrev Os : Fml
   Os = ShrSlice (named 0) κ₀ T.the-row .own s (vs ∷ [])
@@ -117,20 +120,20 @@ module _ {M : Type 1} (𝓤 : URA M) (H : Heap 𝓤) (A : Atoms 𝓤) (W : Given
   Pack = ‵ Os ⊛ ‵ Ox ⊛ ‵ Oy ⊛ T₁₂
 
   abbrev to-chain : ChainOf 𝓤 H A mem run .Ghost
-  to-chain = (((κ₀, tt), (q₀, tt), tt, (s, tt), (vs ∷ [], tt)), tt)
+  to-chain = (((κ₀, tt), (q₀, tt), tt, (s, (g, tt)), (vs ∷ [], (vg ∷ [], tt))), tt)
 
-  apart : ent 𝓤 (⋆ 𝓤 H A ((‵ (flft κ₀ q₀) ⊛ T₁₂) ∷ ‵ (owns (ShrSlice (named 0) κ₀ T.the-row ∷ usize ∷ MutSlice (named 1) κ₁ u64 ∷ MutSlice (named 2) κ₂ u64 ∷ []) (s, (p, (x, (y, tt)))) at) ∷ [])) (⋆ 𝓤 H A (raw (ChainOf 𝓤 H A mem run .pre to-chain) ∷ Pack ∷ []))
+  apart : ent 𝓤 (⋆ 𝓤 H A ((‵ (flft κ₀ q₀) ⊛ T₁₂) ∷ ‵ (owns (ShrSlice (named 0) κ₀ T.the-row ∷ u64 ∷ usize ∷ MutSlice (named 1) κ₁ u64 ∷ MutSlice (named 2) κ₂ u64 ∷ []) (s, (g, (p, (x, (y, tt))))) at) ∷ [])) (⋆ 𝓤 H A (raw (ChainOf 𝓤 H A mem run .pre to-chain) ∷ Pack ∷ []))
   apart =
-      qed W ((‵ (flft κ₀ q₀) ⊛ T₁₂) ∷ ‵ (owns (ShrSlice (named 0) κ₀ T.the-row ∷ usize ∷ MutSlice (named 1) κ₁ u64 ∷ MutSlice (named 2) κ₂ u64 ∷ []) (s, (p, (x, (y, tt)))) at) ∷ []) ∵
-      move ! (1 ∷ []) $ fsplit ! $ use1 W (‵ Os ⊛ ‵ Os) (shr-slice-copy 𝓤 H A W (named 0) κ₀ T.the-row .twice s (vs ∷ [])) $ split ! $ move ! (2 ∷ []) $ fsplit ! $ drop ! $ fsplit ! $ move ! (1 ∷ []) $ fsplit ! $ move ! (1 ∷ []) $ drop ! $
+      qed W ((‵ (flft κ₀ q₀) ⊛ T₁₂) ∷ ‵ (owns (ShrSlice (named 0) κ₀ T.the-row ∷ u64 ∷ usize ∷ MutSlice (named 1) κ₁ u64 ∷ MutSlice (named 2) κ₂ u64 ∷ []) (s, (g, (p, (x, (y, tt))))) at) ∷ []) ∵
+      move ! (1 ∷ []) $ fsplit ! $ use1 W (‵ Os ⊛ ‵ Os) (shr-slice-copy 𝓤 H A W (named 0) κ₀ T.the-row .twice s (vs ∷ [])) $ split ! $ move ! (2 ∷ []) $ fsplit ! $ drop ! $ fsplit ! $ drop ! $ fsplit ! $ move ! (1 ∷ []) $ fsplit ! $ move ! (1 ∷ []) $ drop ! $
       -- [Oy; Ox; Os; Os; the tokens]
       move ! (4 ∷ []) $ split ! $ move ! (0 ∷ 4 ∷ []) $
-      use2 W (raw (ChainOf 𝓤 H A mem run .pre to-chain)) (qed W (‵ (flft κ₀ q₀) ∷ ‵ Os ∷ []) ∵ nothing ! $ move ! (1 ∷ 0 ∷ []) $ join ! $ nothing ! $ move ! (2 ∷ 0 ∷ []) $ fjoin ! $ move ! (1 ∷ 0 ∷ []) $ join ! $ frame ! $ done !) $
+      use2 W (raw (ChainOf 𝓤 H A mem run .pre to-chain)) (qed W (‵ (flft κ₀ q₀) ∷ ‵ Os ∷ []) ∵ nothing ! $ move ! (1 ∷ 0 ∷ []) $ join ! $ nothing ! $ owned ! u64 (Is u64) (uint-makes 𝓤 H A W w64) g _ (refl, g-fits) $ fjoin ! $ move ! (2 ∷ 0 ∷ []) $ fjoin ! $ move ! (1 ∷ 0 ∷ []) $ join ! $ frame ! $ done !) $
       -- [what `chain_of` asks; T₁₂; Oy; Ox; Os]
       move ! (2 ∷ 1 ∷ []) $ join ! $ move ! (2 ∷ 0 ∷ []) $ join ! $ move ! (2 ∷ 0 ∷ []) $ join ! $ move ! (1 ∷ 0 ∷ []) $ done !
 
-  chain-said : (c : Chain) → ent 𝓤 (ensured 𝓤 H A chain-of.ended (chain-of.clauses 𝓤 H A mem run) (κ₀, tt) (s, tt) tt c) (fact 𝓤 (c ≡ made))
-  chain-said c = exE 𝓤 _ (λ ws. snd∗ 𝓤 (sem 𝓤 H A (lasts chain-of.ended (κ₀, tt) (s, tt) ws)) (fact 𝓤 (c ≡ made)))
+  chain-said : (c : Chain) → ent 𝓤 (ensured 𝓤 H A chain-of.ended (chain-of.clauses 𝓤 H A mem run) (κ₀, tt) (s, (g, tt)) tt c) (fact 𝓤 (c ≡ made))
+  chain-said c = exE 𝓤 _ (λ ws. snd∗ 𝓤 (sem 𝓤 H A (lasts chain-of.ended (κ₀, tt) (s, (g, tt)) ws)) (fact 𝓤 (c ≡ made)))
 
   abbrev to-make : Chain → Val → Make 𝓤 H A mem run .Ghost
   to-make c u = (((κ₁, (κ₂, tt)), (q₁, (q₂, tt)), tt, (c, (p, (x, (y, tt)))), (u ∷ [], (vp ∷ [], (vx ∷ [], (vy ∷ [], tt))))), tt)
@@ -151,22 +154,22 @@ module _ {M : Type 1} (𝓤 : URA M) (H : Heap 𝓤) (A : Atoms 𝓤) (W : Given
       → ent 𝓤 (⋆ 𝓤 H A (‵ (Md.the-row .own r (w ∷ [])) ∷ T₁₂ ∷ ‵ (finally u64 (y .name) ys) ∷ ‵ (finally u64 (x .name) xs) ∷ ‵ Os ∷ T₀ ∷ [])) (Post w)
   exits r w xs ys e lx ly =
       qed W (‵ (Md.the-row .own r (w ∷ [])) ∷ T₁₂ ∷ ‵ (finally u64 (y .name) ys) ∷ ‵ (finally u64 (x .name) xs) ∷ ‵ Os ∷ T₀ ∷ []) ∵
-      suffices ! _ (ends-at 𝓤 H A f.ended stayed (f.clauses 𝓤 H A mem run) W ((κs, (q₀, (q₁, (q₂, tt))), tt, (s, (p, (x, (y, tt)))), at), tt) w r (tt, (tt, (xs, (ys, tt)))) (tt, (tt, (lx, (ly, tt))))) $ says ! (e, refl) $
+      suffices ! _ (ends-at 𝓤 H A f.ended stayed (f.clauses 𝓤 H A mem run) W ((κs, (q₀, (q₁, (q₂, tt))), tt, (s, (g, (p, (x, (y, tt))))), at), tt) w r (tt, (tt, (tt, (xs, (ys, tt))))) (tt, (tt, (tt, (lx, (ly, tt)))))) $ says ! (e, refl) $
       move ! (5 ∷ []) $ split ! $ move ! (0 ∷ 3 ∷ []) $ join ! $ frame ! $
       -- [true; the result; y's last list; x's; Os]
-      move ! (2 ∷ 0 ∷ []) $ fjoin ! $ move ! (2 ∷ 0 ∷ []) $ fjoin ! $ owned ! usize (Is usize) (uint-makes 𝓤 H A W w64) p _ (refl, p-fits) $ fjoin ! $ move ! (2 ∷ 0 ∷ []) $ fjoin ! $ frame ! $ done !
+      move ! (2 ∷ 0 ∷ []) $ fjoin ! $ move ! (2 ∷ 0 ∷ []) $ fjoin ! $ owned ! usize (Is usize) (uint-makes 𝓤 H A W w64) p _ (refl, p-fits) $ fjoin ! $ owned ! u64 (Is u64) (uint-makes 𝓤 H A W w64) g _ (refl, g-fits) $ fjoin ! $ move ! (2 ∷ 0 ∷ []) $ fjoin ! $ frame ! $ done !
 
   module _ (C : Calls 𝓤 H) (Λ : Loops 𝓤 H) (fm : FmC 𝓤 H (W .laws) C) (known-chain : Triple 𝓤 (C #chain-of) (ChainOf 𝓤 H A mem run)) (known-make : Triple 𝓤 (C #make-table) (Make 𝓤 H A mem run)) where
-    walk : length (s .now) < 2 ^ 64 → length (x .now) < 2 ^ 64 → length (y .now) < 2 ^ 64 → ent 𝓤 (onEntry 𝓤 H A f.signature κs (q₀, (q₁, (q₂, tt))) (s, (p, (x, (y, tt)))) at) (WpFn 𝓤 H C Λ code.function (vs ∷ vp ∷ vx ∷ vy ∷ []) Post)
+    walk : length (s .now) < 2 ^ 64 → length (x .now) < 2 ^ 64 → length (y .now) < 2 ^ 64 → ent 𝓤 (onEntry 𝓤 H A f.signature κs (q₀, (q₁, (q₂, tt))) (s, (g, (p, (x, (y, tt))))) at) (WpFn 𝓤 H C Λ code.function (vs ∷ vg ∷ vp ∷ vx ∷ vy ∷ []) Post)
     walk gs gx gy =
-        qed W ((‵ (flft κ₀ q₀) ⊛ T₁₂) ∷ ‵ (owns (ShrSlice (named 0) κ₀ T.the-row ∷ usize ∷ MutSlice (named 1) κ₁ u64 ∷ MutSlice (named 2) κ₂ u64 ∷ []) (s, (p, (x, (y, tt)))) at) ∷ []) ∵ enter ! C Λ code.function (vs ∷ vp ∷ vx ∷ vy ∷ []) _ $
-        alloc1 ! (λ l₀. alloc1 ! (λ l₁. alloc1 ! (λ l₂. alloc1 ! (λ l₃. alloc1 ! (λ l₄. alloc1 ! (λ l₅. alloc1 ! (λ l₆. alloc1 ! (λ l₇. alloc1 ! (λ l₈. alloc1 ! (λ l₉. alloc0 ! $ params1 ! $
-        pass1 ! (init ! 16 refl (tt, (tt, (record { fits = gs }, tt)))) $ pass1 ! (init ! 14 refl (tt, record { fits = p-fits })) $ pass1 ! (init ! 12 refl (tt, (tt, (record { fits = gx }, tt)))) $ pass1 ! (init ! 10 refl (tt, (tt, (record { fits = gy }, tt)))) $ pass0 ! $
-        move ! (20 ∷ 21 ∷ []) $ use2 W (raw (ChainOf 𝓤 H A mem run .pre to-chain) ⊛ Pack) apart $ split ! $
-        calls-at ! fm (ChainOf 𝓤 H A mem run) known-chain to-chain (and-then ! (load ! (from ! (stop !)) (look ! 18 refl)) (no-more !)) (λ u.
-        use1 W (later (some (λ (c : Chain). (T₀ ⊛ ‵ (Ch.the-row .own c (u ∷ []))) ⊛ raw (ensured 𝓤 H A chain-of.ended (chain-of.clauses 𝓤 H A mem run) (κ₀, tt) (s, tt) tt c)))) (id⊢ 𝓤 _) $ await ! tt $ pick ! (λ c.
+        qed W ((‵ (flft κ₀ q₀) ⊛ T₁₂) ∷ ‵ (owns (ShrSlice (named 0) κ₀ T.the-row ∷ u64 ∷ usize ∷ MutSlice (named 1) κ₁ u64 ∷ MutSlice (named 2) κ₂ u64 ∷ []) (s, (g, (p, (x, (y, tt))))) at) ∷ []) ∵ enter ! C Λ code.function (vs ∷ vg ∷ vp ∷ vx ∷ vy ∷ []) _ $
+        alloc1 ! (λ l₀. alloc1 ! (λ l₁. alloc1 ! (λ l₂. alloc1 ! (λ l₃. alloc1 ! (λ l₄. alloc1 ! (λ l₅. alloc1 ! (λ l₆. alloc1 ! (λ l₇. alloc1 ! (λ l₈. alloc1 ! (λ l₉. alloc1 ! (λ l₁₀. alloc0 ! $ params1 ! $
+        pass1 ! (init ! 18 refl (tt, (tt, (record { fits = gs }, tt)))) $ pass1 ! (init ! 16 refl (tt, record { fits = g-fits })) $ pass1 ! (init ! 14 refl (tt, record { fits = p-fits })) $ pass1 ! (init ! 12 refl (tt, (tt, (record { fits = gx }, tt)))) $ pass1 ! (init ! 10 refl (tt, (tt, (record { fits = gy }, tt)))) $ pass0 ! $
+        move ! (22 ∷ 23 ∷ []) $ use2 W (raw (ChainOf 𝓤 H A mem run .pre to-chain) ⊛ Pack) apart $ split ! $
+        calls-at ! fm (ChainOf 𝓤 H A mem run) known-chain to-chain (and-then ! (load ! (from ! (stop !)) (look ! 20 refl)) (and-then ! (load ! (from ! (stop !)) (look ! 18 refl)) (no-more !))) (λ u.
+        use1 W (later (some (λ (c : Chain). (T₀ ⊛ ‵ (Ch.the-row .own c (u ∷ []))) ⊛ raw (ensured 𝓤 H A chain-of.ended (chain-of.clauses 𝓤 H A mem run) (κ₀, tt) (s, (g, tt)) tt c)))) (id⊢ 𝓤 _) $ await ! tt $ pick ! (λ c.
         split ! $ move ! (1 ∷ []) $ use1 W (raw (fact 𝓤 (c ≡ made))) (chain-said c) $ heard ! (c ≡ made) (λ e. split ! $ move ! (1 ∷ []) $
-        -- [what the chain owns; T₀; Pack; _9; …; _0; …]
+        -- [what the chain owns; T₀; Pack; _10; …; _0; …]
         peeks ! Ch.the-row (Is Ch.the-row) (shows 𝓤 H A Ch.the-row) c (u ∷ []) (λ is.
         land ! (from ! (stop !)) (init ! 11 refl (LL.lawful Ch.the-type Ch′.the-laws 𝓤 H A W .typed c _ is .0)) $
         assigns ! (addr ! (from ! (fld ! refl (hop ! (look-in ! 15 (sub ! 0 refl (whole !))) (stop !))))) (from ! (stop !)) (init ! 9 refl (tt, tt)) $
@@ -174,25 +177,25 @@ module _ {M : Type 1} (𝓤 : URA M) (H : Heap 𝓤) (A : Atoms 𝓤) (W : Given
         assigns ! (addr ! (from ! (fld ! refl (hop ! (look-in ! 13 (sub ! 0 refl (whole !))) (stop !))))) (from ! (stop !)) (init ! 5 refl (tt, tt)) $
         assigns ! (agg ! (and-then ! (load ! (from ! (stop !)) (look ! 5 refl)) (and-then ! (load ! (from ! (fld ! refl (stop !))) (look-in ! 13 (sub ! 1 refl (whole !)))) (no-more !)))) (from ! (stop !)) (init ! 3 refl (tt, (tt, (record { fits = gy }, tt)))) $
         move ! (0 ∷ 2 ∷ []) $ use2 W (raw (Make 𝓤 H A mem run .pre (to-make c u)) ⊛ ‵ Os) (goes-make c u) $ split ! $
-        -- [what `make_table` asks; Os; T₀; _9; …; _0; …]
+        -- [what `make_table` asks; Os; T₀; _10; …; _0; …]
         calls-at ! fm (Make 𝓤 H A mem run) known-make (to-make c u) (and-then ! (load ! (from ! (stop !)) (look ! 11 refl)) (and-then ! (load ! (from ! (stop !)) (look ! 17 refl)) (and-then ! (load ! (from ! (stop !)) (look ! 7 refl)) (and-then ! (load ! (from ! (stop !)) (look ! 3 refl)) (no-more !))))) (λ w.
         use1 W (later (some (λ (r : Made). (T₁₂ ⊛ ‵ (Md.the-row .own r (w ∷ []))) ⊛ raw (ensured 𝓤 H A make-table.ended (make-table.clauses 𝓤 H A mem run) (κ₁, (κ₂, tt)) (c, (p, (x, (y, tt)))) tt r)))) (id⊢ 𝓤 _) $ await ! tt $ pick ! (λ r.
         split ! $ move ! (1 ∷ []) $ use1 W (some (λ (zs : Unit {0} × (Unit {0} × (List ℕ × (List ℕ × Unit {0})))). ‵ (lasts make-table.ended (κ₁, (κ₂, tt)) (c, (p, (x, (y, tt)))) zs) ⊛ raw (fact 𝓤 (Says c r (zs .1 .1 .0) (zs .1 .1 .1 .0))))) (id⊢ 𝓤 _) $ pick ! (λ zs.
         split ! $ move ! (1 ∷ []) $ heard ! (Says c r (zs .1 .1 .0) (zs .1 .1 .1 .0)) (λ e₂. fsplit ! $ drop ! $ fsplit ! $ drop ! $ fsplit ! $ fsplit ! $ move ! (1 ∷ []) $ feqL ! (λ lx. move ! (1 ∷ []) $ fsplit ! $ fsplit ! $ move ! (1 ∷ []) $ feqL ! (λ ly.
-        -- [y's last list; true; x's last list; T₁₂ and the result; Os; T₀; _9; …; _0; …]
+        -- [y's last list; true; x's last list; T₁₂ and the result; Os; T₀; _10; …; _0; …]
         move ! (3 ∷ []) $ split ! $ move ! (1 ∷ []) $ peeks ! Md.the-row (Is Md.the-row) (shows 𝓤 H A Md.the-row) r (w ∷ []) (λ isr.
-        land ! (from ! (stop !)) (init ! 25 refl (EL.lawful Md.the-type Md′.the-laws 𝓤 H A W tt .typed r _ isr .0)) $
-        returns ! (look ! 25 refl) $ forget ! 7 refl $ forget ! 9 refl $ forget ! 11 refl $ forget ! 13 refl $ forget ! 15 refl $ forget ! 17 refl $ forget ! 19 refl $ forget ! 21 refl $ forget ! 23 refl $ forget ! 25 refl $
-        move ! (25 ∷ 26 ∷ []) $ free1 ! $ move ! (23 ∷ 24 ∷ []) $ free1 ! $ move ! (21 ∷ 22 ∷ []) $ free1 ! $ move ! (19 ∷ 20 ∷ []) $ free1 ! $ move ! (17 ∷ 18 ∷ []) $ free1 ! $ move ! (15 ∷ 16 ∷ []) $ free1 ! $ move ! (13 ∷ 14 ∷ []) $ free1 ! $ move ! (11 ∷ 12 ∷ []) $ free1 ! $ move ! (9 ∷ 10 ∷ []) $ free1 ! $ move ! (7 ∷ 8 ∷ []) $ free1 ! $ free0 ! $
-        keep ! (0 ∷ 1 ∷ 2 ∷ 4 ∷ 5 ∷ 6 ∷ []) $ by ! (exits r w (zs .1 .1 .0) (zs .1 .1 .1 .0) (subst (λ (d : Chain). Says d r (zs .1 .1 .0) (zs .1 .1 .1 .0)) e e₂) lx ly))))))))))))))))))))))
+        land ! (from ! (stop !)) (init ! 27 refl (EL.lawful Md.the-type Md′.the-laws 𝓤 H A W tt .typed r _ isr .0)) $
+        returns ! (look ! 27 refl) $ forget ! 7 refl $ forget ! 9 refl $ forget ! 11 refl $ forget ! 13 refl $ forget ! 15 refl $ forget ! 17 refl $ forget ! 19 refl $ forget ! 21 refl $ forget ! 23 refl $ forget ! 25 refl $ forget ! 27 refl $
+        move ! (27 ∷ 28 ∷ []) $ free1 ! $ move ! (25 ∷ 26 ∷ []) $ free1 ! $ move ! (23 ∷ 24 ∷ []) $ free1 ! $ move ! (21 ∷ 22 ∷ []) $ free1 ! $ move ! (19 ∷ 20 ∷ []) $ free1 ! $ move ! (17 ∷ 18 ∷ []) $ free1 ! $ move ! (15 ∷ 16 ∷ []) $ free1 ! $ move ! (13 ∷ 14 ∷ []) $ free1 ! $ move ! (11 ∷ 12 ∷ []) $ free1 ! $ move ! (9 ∷ 10 ∷ []) $ free1 ! $ move ! (7 ∷ 8 ∷ []) $ free1 ! $ free0 ! $
+        keep ! (0 ∷ 1 ∷ 2 ∷ 4 ∷ 5 ∷ 6 ∷ []) $ by ! (exits r w (zs .1 .1 .0) (zs .1 .1 .1 .0) (subst (λ (d : Chain). Says d r (zs .1 .1 .0) (zs .1 .1 .1 .0)) e e₂) lx ly)))))))))))))))))))))))
 
 module _ {M : Type 1} (𝓤 : URA M) (H : Heap 𝓤) (A : Atoms 𝓤) (W : Given 𝓤 H A) (mem : Memory → SProp 𝓤) (run : Routine → Fun 𝓤) (𝓣 : Tables 𝓤 H) (known-chain : Triple 𝓤 (𝓣 .C #chain-of) (ChainOf 𝓤 H A mem run)) (known-make : Triple 𝓤 (𝓣 .C #make-table) (Make 𝓤 H A mem run)) where
   f-walks : Walks 𝓤 H A f.ended stayed (WpFn 𝓤 H (𝓣 .C) (𝓣 .Λ) code.function) (f.clauses 𝓤 H A mem run)
-  f-walks = walked 𝓤 H A f.ended stayed (f.clauses 𝓤 H A mem run) (WpFn 𝓤 H (𝓣 .C) (𝓣 .Λ) code.function) (λ κs. (slice-vals, (uint-vals w64, (slice-vals, (slice-vals, tt))))) (λ κs. (shr-slice-tells (named 0) (κs .0) T.the-row, (uint-tells w64, (mut-slice-tells (named 1) (κs .1 .0) u64, (mut-slice-tells (named 2) (κs .1 .1 .0) u64, tt)))))
-      (λ κs qs bounds a g are. via 𝓤 _ (fst∗ 𝓤 _ (emp 𝓤)) (walk 𝓤 H A W mem run (κs .0) (κs .1 .0) (κs .1 .1 .0) (qs .0) (qs .1 .0) (qs .1 .1 .0) (a .0) (a .1 .0) (are .1 .0 .1) (a .1 .1 .0) (a .1 .1 .1 .0) (𝓣 .C) (𝓣 .Λ) (fmOf 𝓤 H (W .laws) 𝓣) known-chain known-make (are .0 .0 .1 .0) (are .1 .1 .0 .0 .1 .0) (are .1 .1 .1 .0 .0 .1 .0)))
+  f-walks = walked 𝓤 H A f.ended stayed (f.clauses 𝓤 H A mem run) (WpFn 𝓤 H (𝓣 .C) (𝓣 .Λ) code.function) (λ κs. (slice-vals, (uint-vals w64, (uint-vals w64, (slice-vals, (slice-vals, tt)))))) (λ κs. (shr-slice-tells (named 0) (κs .0) T.the-row, (uint-tells w64, (uint-tells w64, (mut-slice-tells (named 1) (κs .1 .0) u64, (mut-slice-tells (named 2) (κs .1 .1 .0) u64, tt))))))
+      (λ κs qs bounds a g are. via 𝓤 _ (fst∗ 𝓤 _ (emp 𝓤)) (walk 𝓤 H A W mem run (κs .0) (κs .1 .0) (κs .1 .1 .0) (qs .0) (qs .1 .0) (qs .1 .1 .0) (a .0) (a .1 .0) (are .1 .0 .1) (a .1 .1 .0) (are .1 .1 .0 .1) (a .1 .1 .1 .0) (a .1 .1 .1 .1 .0) (𝓣 .C) (𝓣 .Λ) (fmOf 𝓤 H (W .laws) 𝓣) known-chain known-make (are .0 .0 .1 .0) (are .1 .1 .1 .0 .0 .1 .0) (are .1 .1 .1 .1 .0 .0 .1 .0)))
 
   f-meets : Meets 𝓤 H A f.signature (WpFn 𝓤 H (𝓣 .C) (𝓣 .Λ) code.function) (f.spec 𝓤 H A mem run)
-  f-meets = walk-meets 𝓤 H A f.ended stayed W (goes-none-slice 𝓤 H A W 3 (0 ∷ []) tt (plain (λ _. T.the-row)) yes, (goes-none 𝓤 H A W 3 (λ _. usize) yes (λ κs x f. refl), (goes-gave-slice 𝓤 H A W 3 1 tt (plain (λ _. u64)), (goes-gave-slice 𝓤 H A W 3 2 tt (plain (λ _. u64)), tt)))) (f.clauses 𝓤 H A mem run) (WpFn 𝓤 H (𝓣 .C) (𝓣 .Λ) code.function) (WpFn-mono 𝓤 H (W .laws) 𝓣 code.function) f-walks
+  f-meets = walk-meets 𝓤 H A f.ended stayed W (goes-none-slice 𝓤 H A W 3 (0 ∷ []) tt (plain (λ _. T.the-row)) yes, (goes-none 𝓤 H A W 3 (λ _. u64) yes (λ κs x f. refl), (goes-none 𝓤 H A W 3 (λ _. usize) yes (λ κs x f. refl), (goes-gave-slice 𝓤 H A W 3 1 tt (plain (λ _. u64)), (goes-gave-slice 𝓤 H A W 3 2 tt (plain (λ _. u64)), tt))))) (f.clauses 𝓤 H A mem run) (WpFn 𝓤 H (𝓣 .C) (𝓣 .Λ) code.function) (WpFn-mono 𝓤 H (W .laws) 𝓣 code.function) f-walks
 
 pub make-table-of-spec : {M : Type 1} → stated.statement M
 unfolding code.routine tablesOf

@@ -154,19 +154,19 @@ module _ {M : Type 1} (𝓤 : URA M) (H : Heap 𝓤) (A : Atoms 𝓤) (W : Given
   Os l α γ = ShrSlice (named 0) (α ∷ []) T.the-row .own (s l γ) (sliceVal (l, 0) 2 ∷ [])
 
   abbrev to-make : ℕ → ℕ → GName → Make 𝓤 H A mem run .Ghost
-  to-make l α γ = (((α ∷ [], (κ₁, (κ₂, tt))), (fullShare, (q₁, (q₂, tt))), tt, (s l γ, (p, (x, (y, tt)))), (sliceVal (l, 0) 2 ∷ [], (vp ∷ [], (vx ∷ [], (vy ∷ [], tt))))), tt)
+  to-make l α γ = (((α ∷ [], (κ₁, (κ₂, tt))), (fullShare, (q₁, (q₂, tt))), tt, (s l γ, (0, (p, (x, (y, tt))))), (sliceVal (l, 0) 2 ∷ [], (vint w64 0 ∷ [], (vp ∷ [], (vx ∷ [], (vy ∷ [], tt)))))), tt)
 
   goes-make : (l α : ℕ) (γ : GName) → ent 𝓤 (⋆ 𝓤 H A (‵ (Os l α γ) ∷ ‵ (flft (α ∷ []) fullShare) ∷ (T₁₂ ⊛ ‵ Given-in) ∷ [])) (Make 𝓤 H A mem run .pre (to-make l α γ))
   goes-make l α γ =
       qed W (‵ (Os l α γ) ∷ ‵ (flft (α ∷ []) fullShare) ∷ (T₁₂ ⊛ ‵ Given-in) ∷ []) ∵ move ! (2 ∷ []) $ split ! $ move ! (1 ∷ []) $ fsplit ! $ drop ! $ fsplit ! $ drop ! $ fsplit ! $ drop ! $
       -- [the lists; T₁₂; Os; α's token]
-      owned ! usize (Is usize) (uint-makes 𝓤 H A W w64) p _ (refl, p-fits) $ fjoin ! $ move ! (2 ∷ 0 ∷ []) $ fjoin ! $ move ! (2 ∷ 1 ∷ []) $ join ! $
+      owned ! usize (Is usize) (uint-makes 𝓤 H A W w64) p _ (refl, p-fits) $ fjoin ! $ owned ! u64 (Is u64) (uint-makes 𝓤 H A W w64) 0 _ (refl, lit< tt) $ fjoin ! $ move ! (2 ∷ 0 ∷ []) $ fjoin ! $ move ! (2 ∷ 1 ∷ []) $ join ! $
       -- [the tokens; what the parameters own]
       join ! $ frame ! $ done !
 
   -- what the contract says of the result and the last lists
   abbrev Says : Made → List ℕ → List ℕ → Type 0
-  Says r xs ys = Makes (chainOfList list) p (x .now) (y .now) xs ys r
+  Says r xs ys = Makes (chainOfList 0 list) p (x .now) (y .now) xs ys r
 
   exits : (r : Made) (w : Val) (xs ys : List ℕ) → Says r xs ys → length xs ≡ length (x .now) → length ys ≡ length (y .now)
       → ent 𝓤 (⋆ 𝓤 H A (‵ (Md.the-row .own r (w ∷ [])) ∷ T₁₂ ∷ ‵ (finally u64 (y .name) ys) ∷ ‵ (finally u64 (x .name) xs) ∷ [])) (Post w)
@@ -199,10 +199,10 @@ module _ {M : Type 1} (𝓤 : URA M) (H : Heap 𝓤) (A : Atoms 𝓤) (W : Given
         -- [Os; the lender's part; α's token; _12; …; _0; …; T₁₂; what the parameters own], without the room of _6
         move ! (28 ∷ 29 ∷ []) $ join ! $ move ! (1 ∷ 3 ∷ 0 ∷ []) $ use3 W (raw (Make 𝓤 H A mem run .pre (to-make l₆ α γ))) (goes-make l₆ α γ) $
         -- [what `make_table_of` asks; the lender's part; _12; …; _0; …]
-        calls-at ! fm (Make 𝓤 H A mem run) known (to-make l₆ α γ) (and-then ! (load ! (from ! (stop !)) (look ! 10 refl)) (and-then ! (load ! (from ! (stop !)) (look ! 19 refl)) (and-then ! (load ! (from ! (stop !)) (look ! 6 refl)) (and-then ! (load ! (from ! (stop !)) (look ! 2 refl)) (no-more !))))) (λ w.
-        use1 W (later (some (λ (r : Made). ((‵ (flft (α ∷ []) fullShare) ⊛ T₁₂) ⊛ ‵ (Md.the-row .own r (w ∷ []))) ⊛ raw (ensured 𝓤 H A make-table-of.ended (make-table-of.clauses 𝓤 H A mem run) (α ∷ [], (κ₁, (κ₂, tt))) (s l₆ γ, (p, (x, (y, tt)))) tt r)))) (id⊢ 𝓤 _) $ await ! tt $ pick ! (λ r.
-        split ! $ move ! (1 ∷ []) $ use1 W (some (λ (zs : Unit {0} × (Unit {0} × (List ℕ × (List ℕ × Unit {0})))). ‵ (lasts make-table-of.ended (α ∷ [], (κ₁, (κ₂, tt))) (s l₆ γ, (p, (x, (y, tt)))) zs) ⊛ raw (fact 𝓤 (Says r (zs .1 .1 .0) (zs .1 .1 .1 .0) × (list ≡ list))))) (id⊢ 𝓤 _) $ pick ! (λ zs.
-        split ! $ move ! (1 ∷ []) $ heard ! (Says r (zs .1 .1 .0) (zs .1 .1 .1 .0) × (list ≡ list)) (λ e. fsplit ! $ drop ! $ fsplit ! $ drop ! $ fsplit ! $ fsplit ! $ move ! (1 ∷ []) $ feqL ! (λ lx. move ! (1 ∷ []) $ fsplit ! $ fsplit ! $ move ! (1 ∷ []) $ feqL ! (λ ly.
+        calls-at ! fm (Make 𝓤 H A mem run) known (to-make l₆ α γ) (and-then ! (load ! (from ! (stop !)) (look ! 10 refl)) (and-then ! (lit ! tt) (and-then ! (load ! (from ! (stop !)) (look ! 19 refl)) (and-then ! (load ! (from ! (stop !)) (look ! 6 refl)) (and-then ! (load ! (from ! (stop !)) (look ! 2 refl)) (no-more !)))))) (λ w.
+        use1 W (later (some (λ (r : Made). ((‵ (flft (α ∷ []) fullShare) ⊛ T₁₂) ⊛ ‵ (Md.the-row .own r (w ∷ []))) ⊛ raw (ensured 𝓤 H A make-table-of.ended (make-table-of.clauses 𝓤 H A mem run) (α ∷ [], (κ₁, (κ₂, tt))) (s l₆ γ, (0, (p, (x, (y, tt))))) tt r)))) (id⊢ 𝓤 _) $ await ! tt $ pick ! (λ r.
+        split ! $ move ! (1 ∷ []) $ use1 W (some (λ (zs : Unit {0} × (Unit {0} × (Unit {0} × (List ℕ × (List ℕ × Unit {0}))))). ‵ (lasts make-table-of.ended (α ∷ [], (κ₁, (κ₂, tt))) (s l₆ γ, (0, (p, (x, (y, tt))))) zs) ⊛ raw (fact 𝓤 (Says r (zs .1 .1 .1 .0) (zs .1 .1 .1 .1 .0) × (list ≡ list))))) (id⊢ 𝓤 _) $ pick ! (λ zs.
+        split ! $ move ! (1 ∷ []) $ heard ! (Says r (zs .1 .1 .1 .0) (zs .1 .1 .1 .1 .0) × (list ≡ list)) (λ e. fsplit ! $ drop ! $ fsplit ! $ drop ! $ fsplit ! $ drop ! $ fsplit ! $ fsplit ! $ move ! (1 ∷ []) $ feqL ! (λ lx. move ! (1 ∷ []) $ fsplit ! $ fsplit ! $ move ! (1 ∷ []) $ feqL ! (λ ly.
         -- [y's last list; true; x's last list; the tokens and the result; the lender's part; _12; …; _0; …]
         move ! (3 ∷ []) $ split ! $ split ! $ lft-end ! tt $ move ! (0 ∷ 6 ∷ []) $ lent-back ! tt $ use1 W (‵ (froom two l₆ 0)) (as-room 𝓤 H A W a b ia ib l₆) $
         -- [the room of _6; T₁₂; the result; y's last list; true; x's last list; _12; …; _0; …]
@@ -211,7 +211,7 @@ module _ {M : Type 1} (𝓤 : URA M) (H : Heap 𝓤) (A : Atoms 𝓤) (W : Given
         returns ! (look ! 29 refl) $ forget ! 6 refl $ forget ! 8 refl $ forget ! 10 refl $ forget ! 12 refl $ forget ! 14 refl $ forget ! 16 refl $ forget ! 19 refl $ forget ! 21 refl $ forget ! 23 refl $ forget ! 25 refl $ forget ! 27 refl $ forget ! 29 refl $
         move ! (29 ∷ 30 ∷ []) $ free1 ! $ move ! (27 ∷ 28 ∷ []) $ free1 ! $ move ! (25 ∷ 26 ∷ []) $ free1 ! $ move ! (23 ∷ 24 ∷ []) $ free1 ! $ move ! (21 ∷ 22 ∷ []) $ free1 ! $ move ! (19 ∷ 20 ∷ []) $ free1 ! $ move ! (1 ∷ 18 ∷ []) $ free1 ! $
         move ! (15 ∷ 16 ∷ []) $ free1 ! $ move ! (13 ∷ 14 ∷ []) $ free1 ! $ move ! (11 ∷ 12 ∷ []) $ free1 ! $ move ! (9 ∷ 10 ∷ []) $ free1 ! $ move ! (7 ∷ 8 ∷ []) $ free1 ! $ move ! (5 ∷ 6 ∷ []) $ free1 ! $ free0 ! $
-        keep ! (0 ∷ 1 ∷ 2 ∷ 4 ∷ []) $ by ! (exits r w (zs .1 .1 .0) (zs .1 .1 .1 .0) (e .0) lx ly)))))))))))))))))))))))
+        keep ! (0 ∷ 1 ∷ 2 ∷ 4 ∷ []) $ by ! (exits r w (zs .1 .1 .1 .0) (zs .1 .1 .1 .1 .0) (e .0) lx ly)))))))))))))))))))))))
 
 module _ {M : Type 1} (𝓤 : URA M) (H : Heap 𝓤) (A : Atoms 𝓤) (W : Given 𝓤 H A) (mem : Memory → SProp 𝓤) (run : Routine → Fun 𝓤) (𝓣 : Tables 𝓤 H) (known : Triple 𝓤 (𝓣 .C #make-table-of) (Make 𝓤 H A mem run)) where
   f-walks : Walks 𝓤 H A f.ended stayed (WpFn 𝓤 H (𝓣 .C) (𝓣 .Λ) code.function) (f.clauses 𝓤 H A mem run)

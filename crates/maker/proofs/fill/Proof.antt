@@ -9,10 +9,10 @@ slice-aggregate-first : tie.Need-slice-aggregate-first
 slice-aggregate-first c = search needs
 
 first-requires : tie.Need-first-requires
-first-requires c κs = let s = c .before .before .before .before in fill-cut (tasksIn (s .args .tasks .now)) (s .args .places) (s .args .p) (s .args .from .0) (s .args .n) (s .args .after .0) (s .pre)
+first-requires c κs = let s = c .before .before .before .before in fill-cut (tasksIn (s .args .gap) (s .args .tasks .now)) (s .args .places) (s .args .p) (s .args .from .0) (s .args .n) (s .args .after .0) (s .pre)
 
 add-anchor-requires : tie.Need-add-anchor-requires
-add-anchor-requires c κs = let s = c .before .before .before .before .before .before .before .before .before in fill-adds (tasksIn (s .args .tasks .now)) (s .args .places) (s .args .p) (s .args .from .0) (s .args .n) (s .args .after .0) (s .pre) _ _ (c .before .before .before .before .first .ensures)
+add-anchor-requires c κs = let s = c .before .before .before .before .before .before .before .before .before in fill-adds (tasksIn (s .args .gap) (s .args .tasks .now)) (s .args .places) (s .args .p) (s .args .from .0) (s .args .n) (s .args .after .0) (s .pre) _ _ (c .before .before .before .before .first .ensures)
 
 same-length : tie.Need-same-length
 same-length c = search needs
@@ -21,13 +21,13 @@ same-length-2 : tie.Need-same-length-2
 same-length-2 c = search needs
 
 returns : tie.Need-returns
-returns c = let s = c .before .before .before .before .before .before .before .before .before .before .before .before .before .before in fill-one (tasksIn (s .args .tasks .now)) (s .args .places) (s .args .p) (s .args .from .0) (s .args .n) (s .args .after .0) (s .pre) (c .before .before .before .before .before .before .before .if1 .taken) _ _ (c .before .before .before .before .before .before .before .before .before .first .ensures) _ _ _ _ _ (c .before .before .before .before .add-anchor .ensures) _ refl refl
+returns c = let s = c .before .before .before .before .before .before .before .before .before .before .before .before .before .before in fill-one (tasksIn (s .args .gap) (s .args .tasks .now)) (s .args .places) (s .args .p) (s .args .from .0) (s .args .n) (s .args .after .0) (s .pre) (c .before .before .before .before .before .before .before .if1 .taken) _ _ (c .before .before .before .before .before .before .before .before .before .first .ensures) _ _ _ _ _ (c .before .before .before .before .add-anchor .ensures) _ refl refl
 
 slice-aggregate-walk-by-steps : tie.Need-slice-aggregate-walk-by-steps
 slice-aggregate-walk-by-steps c = search needs
 
 walk-by-steps-requires : tie.Need-walk-by-steps-requires
-walk-by-steps-requires c κs = let s = c .before .before .before .before .before .before .before .before .before .before in fill-begins (tasksIn (s .args .tasks .now)) (s .args .places) (s .args .p) (s .args .from .0) (s .args .n) (s .args .after .0) (s .pre) _ _ (c .before .before .before .before .before .first .ensures)
+walk-by-steps-requires c κs = let s = c .before .before .before .before .before .before .before .before .before .before in fill-begins (tasksIn (s .args .gap) (s .args .tasks .now)) (s .args .places) (s .args .p) (s .args .from .0) (s .args .n) (s .args .after .0) (s .pre) _ _ (c .before .before .before .before .before .first .ensures)
 
 same-length-3 : tie.Need-same-length-3
 same-length-3 c = search needs

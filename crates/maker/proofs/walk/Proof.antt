@@ -9,11 +9,11 @@ use Rattle.maker.proofs.walk.Statement.{statement}
 use Rattle.maker.proofs.walk.Tie as tie
 
 abbrev Inv-loop : tie.InvT-loop
-Inv-loop tasks places p n after r state₀ starts₀ latencies₀ walked₀ g₀ last₀ here₀ state starts latencies walked g last here =
-    (length state ≡ length state₀) × Walking (tasksIn tasks) p n (here₀ .job .0) starts₀ latencies₀ state starts latencies walked g (last .0) here
+Inv-loop tasks gap places p n after r state₀ starts₀ latencies₀ walked₀ g₀ last₀ here₀ state starts latencies walked g last here =
+    (length state ≡ length state₀) × Walking (tasksIn gap tasks) p n (here₀ .job .0) starts₀ latencies₀ state starts latencies walked g (last .0) here
 
 abbrev μ-loop : tie.MeasureT-loop
-μ-loop tasks places p n after r state₀ starts₀ latencies₀ walked₀ g₀ last₀ here₀ state starts latencies walked g last here = n - walked
+μ-loop tasks gap places p n after r state₀ starts₀ latencies₀ walked₀ g₀ last₀ here₀ state starts latencies walked g last here = n - walked
 
 loop-holds : tie.Need-loop-holds Inv-loop μ-loop
 loop-holds c = (refl, walking-start _ _ _ _ _ _ _ (c .before .before .before .before .before .pre .0) _ _)
@@ -22,13 +22,13 @@ next-requires : tie.Need-next-requires Inv-loop μ-loop
 next-requires c κs =
     let s = c .before .before .before .before .before .before .before .before in
     let l = c .before .before in
-    walking-steps (tasksIn (s .args .tasks .now)) (s .args .places) (s .args .p) (s .args .n) (s .args .first) (s .args .after .0) (s .args .state .now) (s .pre .0) _ _ _ _ _ _ _ _ _ (l .loop .inv .1) _ (s .pre .1) (c .before .loop-test .taken)
+    walking-steps (tasksIn (s .args .gap) (s .args .tasks .now)) (s .args .places) (s .args .p) (s .args .n) (s .args .first) (s .args .after .0) (s .args .state .now) (s .pre .0) _ _ _ _ _ _ _ _ _ (l .loop .inv .1) _ (s .pre .1) (c .before .loop-test .taken)
 
 add-anchor-requires : tie.Need-add-anchor-requires Inv-loop μ-loop
 add-anchor-requires c κs =
     let s = c .before .before .before .before .before .before .before .before .before .before .before .before .before .before in
     let l = c .before .before .before .before .before .before .before .before in
-    walking-adds (tasksIn (s .args .tasks .now)) (s .args .places) (s .args .p) (s .args .n) (s .args .first) (s .args .after .0) (s .args .state .now) (s .pre .0) _ _ _ _ _ _ _ _ _ (l .loop .inv .1)
+    walking-adds (tasksIn (s .args .gap) (s .args .tasks .now)) (s .args .places) (s .args .p) (s .args .n) (s .args .first) (s .args .after .0) (s .args .state .now) (s .pre .0) _ _ _ _ _ _ _ _ _ (l .loop .inv .1)
 
 last-end-requires : tie.Need-last-end-requires Inv-loop μ-loop
 last-end-requires c κs = tt
@@ -43,13 +43,13 @@ loop-again : tie.Need-loop-again Inv-loop μ-loop
 loop-again c =
     let s = c .before .before .before .before .before .before .before .before .before .before .before .before .before .before .before .before .before .before .before .before in
     let l = c .before .before .before .before .before .before .before .before .before .before .before .before .before .before in
-    (c .before .before .before .before .before .before .before .before .before .before .before .next .kept .1 .1 .1 .1 .0 ∙ l .loop .inv .0, walking-turn (tasksIn (s .args .tasks .now)) (s .args .places) (s .args .p) (s .args .n) (s .args .first) (s .args .after .0) (s .args .state .now) (s .pre .0) _ _ _ _ _ _ _ _ _ (l .loop .inv .1) (c .before .before .before .before .before .before .before .before .before .before .before .before .before .loop-test .taken) _ _ (c .before .before .before .before .before .before .before .before .before .before .before .next .ensures) _ (c .last-end .ensures) _ _ _ (c .before .before .before .before .before .add-anchor .ensures))
+    (c .before .before .before .before .before .before .before .before .before .before .before .next .kept .1 .1 .1 .1 .1 .0 ∙ l .loop .inv .0, walking-turn (tasksIn (s .args .gap) (s .args .tasks .now)) (s .args .places) (s .args .p) (s .args .n) (s .args .first) (s .args .after .0) (s .args .state .now) (s .pre .0) _ _ _ _ _ _ _ _ _ (l .loop .inv .1) (c .before .before .before .before .before .before .before .before .before .before .before .before .before .loop-test .taken) _ _ (c .before .before .before .before .before .before .before .before .before .before .before .next .ensures) _ (c .last-end .ensures) _ _ _ (c .before .before .before .before .before .add-anchor .ensures))
 
 add-anchor-requires-2 : tie.Need-add-anchor-requires-2 Inv-loop μ-loop
 add-anchor-requires-2 c κs =
     let s = c .before .before .before .before .before .before .before .before .before in
     let l = c .before .before .before in
-    walking-adds (tasksIn (s .args .tasks .now)) (s .args .places) (s .args .p) (s .args .n) (s .args .first) (s .args .after .0) (s .args .state .now) (s .pre .0) _ _ _ _ _ _ _ _ _ (l .loop .inv .1)
+    walking-adds (tasksIn (s .args .gap) (s .args .tasks .now)) (s .args .places) (s .args .p) (s .args .n) (s .args .first) (s .args .after .0) (s .args .state .now) (s .pre .0) _ _ _ _ _ _ _ _ _ (l .loop .inv .1)
 
 same-length : tie.Need-same-length Inv-loop μ-loop
 same-length c = c .before .before .before .before .before .before .before .before .loop .inv .0
@@ -64,8 +64,8 @@ returns : tie.Need-returns Inv-loop μ-loop
 returns c =
     let s = c .before .before .before .before .before .before .before .before .before .before .before .before .before .before in
     let l = c .before .before .before .before .before .before .before .before in (
-      walking-end (tasksIn (s .args .tasks .now)) (s .args .places) (s .args .p) (s .args .n) (s .args .first) (s .args .after .0) (s .args .state .now) (s .pre .0) _ _ _ _ _ _ _ _ _ (l .loop .inv .1) (c .before .before .before .before .before .before .before .loop-test .left) _ _ _ (c .before .before .before .before .add-anchor2 .ensures) _ refl refl,
-      walking-leaves (tasksIn (s .args .tasks .now)) (s .args .places) (s .args .p) (s .args .n) (s .args .first) (s .args .after .0) (s .args .state .now) (s .pre .0) _ _ _ _ _ _ _ _ _ (l .loop .inv .1) (c .before .before .before .before .before .before .before .loop-test .left),
+      walking-end (tasksIn (s .args .gap) (s .args .tasks .now)) (s .args .places) (s .args .p) (s .args .n) (s .args .first) (s .args .after .0) (s .args .state .now) (s .pre .0) _ _ _ _ _ _ _ _ _ (l .loop .inv .1) (c .before .before .before .before .before .before .before .loop-test .left) _ _ _ (c .before .before .before .before .add-anchor2 .ensures) _ refl refl,
+      walking-leaves (tasksIn (s .args .gap) (s .args .tasks .now)) (s .args .places) (s .args .p) (s .args .n) (s .args .first) (s .args .after .0) (s .args .state .now) (s .pre .0) _ _ _ _ _ _ _ _ _ (l .loop .inv .1) (c .before .before .before .before .before .before .before .loop-test .left),
     )
 
 pub walk-spec : {M : Type 1} → statement M

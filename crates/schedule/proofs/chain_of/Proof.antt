@@ -126,7 +126,7 @@ returns c =
     let r = st .args .t2 in
     let i : l .i ≡ least (r .count) 12 = omega (arith, l .inv .6) in
     let e : take (l .i) (r .places) ≡ take (r .count) (r .places) = take-least (r .places) (r .count) 12 (l .i) (twelve st) i in
-    ap (λ (x : List Task). record { tasks = x; places = r .count }) (l .inv .7 ∙ ap (λ (x : List ℕ). padded 12 zeroTask (map (taskNumbered (tasksIn s)) x)) e)
+    ap (λ (x : List Task). record { tasks = x; places = r .count; gap = s .gap }) (l .inv .7 ∙ ap (λ (x : List ℕ). padded 12 zeroTask (map (taskNumbered (tasksIn s)) x)) e)
 
 pub chain-of-spec : {M : Type 1} → statement M
 chain-of-spec =

@@ -25,7 +25,7 @@ age-on-requires : tie.Need-age-on-requires
 age-on-requires c κs = search needs
 
 returns : tie.Need-returns
-returns c = c .age-on .ensures ∙ age-stands _ _ (front (c .before .before) .stands) _
+returns c = c .age-on .ensures ∙ age-stands _ _ _ (front (c .before .before) .stands) _
 
 pub age-spec : {M : Type 1} → statement M
 age-spec =

@@ -25,7 +25,7 @@ delay-on-requires : tie.Need-delay-on-requires
 delay-on-requires c κs = search needs
 
 returns : tie.Need-returns
-returns c = c .delay-on .ensures ∙ delay-stands _ _ (front (c .before .before) .stands) _
+returns c = c .delay-on .ensures ∙ delay-stands _ _ _ (front (c .before .before) .stands) _
 
 pub delay-spec : {M : Type 1} → statement M
 delay-spec =

@@ -1,18 +1,18 @@
 use mathlib.Core.Path.{_≡_, sym, _∙_}
 use Rattle.chain.specs.declared.Verdict.the-variants.{Accepted}
 use Rattle.chain.specs.Checks.{verdictIn, Sound}
-use Rattle.chain.specs.Flat.{tasksIn}
+use Rattle.chain.specs.Flat.{givenIn, tasksIn}
 use Rattle.chain.proofs.CheckLaws.{accepted-in}
 use Rattle.timing.proofs.Exits.{span-refused, span-tick, in-range, span-known}
 use borrow.Author.Needs.{needs}
 use Rattle.timing.proofs.delay_on.Statement.{statement}
 use Rattle.timing.proofs.delay_on.Tie as tie
 
-said : (c : tie.After-enum-told) → verdictIn (tasksIn (c .before .before .before .before .args .tasks .now)) ≡ Accepted (c .enum-told .given .0 .0)
+said : (c : tie.After-enum-told) → verdictIn (c .before .before .before .before .args .gap) (givenIn (c .before .before .before .before .args .tasks .now)) ≡ Accepted (c .enum-told .given .0 .0)
 said c = sym (c .before .before .check-on .ensures) ∙ c .enum-told .given .1
 
-fine : (c : tie.After-enum-told) → Sound (tasksIn (c .before .before .before .before .args .tasks .now))
-fine c = accepted-in _ _ (said c) .sound
+fine : (c : tie.After-enum-told) → Sound (tasksIn (c .before .before .before .before .args .gap) (c .before .before .before .before .args .tasks .now))
+fine c = accepted-in (c .before .before .before .before .args .gap) (givenIn (c .before .before .before .before .args .tasks .now)) _ (said c) .sound
 
 check-on-requires : tie.Need-check-on-requires
 check-on-requires c κs = search needs

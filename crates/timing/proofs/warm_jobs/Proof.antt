@@ -2,7 +2,7 @@ use native.Mathlib.Omega.{arith}
 use Prim.Native.Nat.{_+_, _-_, _/_, _<_}
 use mathlib.Core.Path.{_≡_, refl, ap, _∙_}
 use lib.ListN.{length, replicate}
-use Rattle.task.specs.declared.Task.{Task}
+use Rattle.task.specs.Jobs.{Limited}
 use Rattle.chain.specs.Chains.{at, jobOf}
 use Rattle.chain.specs.Flat.{tasksIn, in-count, in-last}
 use Rattle.timing.specs.WarmUp.{warmAt}
@@ -13,37 +13,37 @@ use Rattle.timing.proofs.warm_jobs.Tie as tie
 
 -- k is the warm-up job at place i, b its task, and the entries from i on are stored
 abbrev Inv-loop : tie.InvT-loop
-Inv-loop tasks jobs₀ i₀ k₀ b₀ jobs i k b = (i < length (tasksIn tasks)) × (k .0 ≡ warmAt (tasksIn tasks) i) × (b ≡ at (tasksIn tasks) i) × From (tasksIn tasks) i jobs
+Inv-loop tasks gap jobs₀ i₀ k₀ b₀ jobs i k b = (i < length (tasksIn gap tasks)) × (k .0 ≡ warmAt (tasksIn gap tasks) i) × (b ≡ at (tasksIn gap tasks) i) × From (tasksIn gap tasks) i jobs
 
 abbrev μ-loop : tie.MeasureT-loop
-μ-loop tasks jobs₀ i₀ k₀ b₀ jobs i k b = i
+μ-loop tasks gap jobs₀ i₀ k₀ b₀ jobs i k b = i
 
 sub-i : tie.Need-sub-i Inv-loop μ-loop
-sub-i c = some-place _ (c .before .pre)
+sub-i c = some-place _ _ (c .before .pre)
 
 warm-last-requires : tie.Need-warm-last-requires Inv-loop μ-loop
 warm-last-requires c κs = c .before .pre
 
 task-at-requires : tie.Need-task-at-requires Inv-loop μ-loop
-task-at-requires c κs = (last-inside _ (c .before .before .pre), last-place-small _ (c .before .before .pre))
+task-at-requires c κs = (last-inside _ _ (c .before .before .pre), last-place-small _ _ (c .before .before .pre))
 
 mul-jobs : tie.Need-mul-jobs Inv-loop μ-loop
-mul-jobs c = omega (arith, last-place-small _ (c .before .before .before .pre))
+mul-jobs c = omega (arith, last-place-small _ _ (c .before .before .before .pre))
 
 array-set-from-jobs : tie.Need-array-set-from-jobs Inv-loop μ-loop
-array-set-from-jobs c = last-place-small _ (c .before .before .before .pre)
+array-set-from-jobs c = last-place-small _ _ (c .before .before .before .pre)
 
 loop-holds : tie.Need-loop-holds Inv-loop μ-loop
 loop-holds c =
     let s = c .before .before .before in
-    let l = tasksIn (s .args .tasks .now) in
+    let l = tasksIn (s .args .gap) (s .args .tasks .now) in
     let n = length (s .args .tasks .now) / 3 - 1 in
-    let e = warm-last-at l (s .pre) n (in-last (s .args .tasks .now)) _ (c .before .warm-last .ensures) in (
-      last-inside _ (s .pre),
+    let e = warm-last-at l (s .pre) n (in-last (s .args .gap) (s .args .tasks .now)) _ (c .before .warm-last .ensures) in (
+      last-inside _ _ (s .pre),
       e,
       c .task-at .ensures,
-      from-store l (s .pre .few) n (replicate 12 noJob) _ (last-inside _ (s .pre))
-          (from-zeros l (s .pre .few) (n + 1) (replicate 12 noJob) (omega (arith, in-count (s .args .tasks .now))) refl (λ x h. zeros-at 12 x)) e,
+      from-store l (s .pre .few) n (replicate 12 noJob) _ (last-inside _ _ (s .pre))
+          (from-zeros l (s .pre .few) (n + 1) (replicate 12 noJob) (omega (arith, in-count (s .args .gap) (s .args .tasks .now))) refl (λ x h. zeros-at 12 x)) e,
     )
 
 sub-i-2 : tie.Need-sub-i-2 Inv-loop μ-loop
@@ -56,7 +56,8 @@ backward-to-requires : tie.Need-backward-to-requires Inv-loop μ-loop
 backward-to-requires c κs =
     let s = c .before .before .before .before .before .before in
     let l = c .before .before .loop in
-    (omega (arith, ap (λ (x : Task). x .period) (c .task-at2 .ensures), s .pre .each (l .i - 1) (omega (arith, l .inv .0)) .period-pos), warm-fits _ (s .pre) (l .i) (l .k .0) (l .b) (l .inv .0) (l .inv .2) (l .inv .1))
+    let w : Limited (c .task-at2 .result) = rw (c .task-at2 .ensures) (s .pre .each (l .i - 1) (omega (arith, l .inv .0))) in
+    (w .period-pos, warm-fits _ (s .pre) (l .i) (l .k .0) (l .b) (l .inv .0) (l .inv .2) (l .inv .1), omega (arith, w .duration-max, w .gap-max))
 
 job-of-requires : tie.Need-job-of-requires Inv-loop μ-loop
 job-of-requires c κs = tt
@@ -74,7 +75,7 @@ loop-again : tie.Need-loop-again Inv-loop μ-loop
 loop-again c =
     let s = c .before .before .before .before .before .before .before .before in
     let l = c .before .before .before .before .loop in
-    let t = tasksIn (s .args .tasks .now) in
+    let t = tasksIn (s .args .gap) (s .args .tasks .now) in
     let g = c .before .before .before .loop-test .taken in
     let e : c .job-of .result .0 ≡ warmAt t (l .i - 1)
     = c .job-of .ensures ∙ ap jobOf (c .before .backward-to .ensures) ∙ warm-back t (s .pre) (l .i) (l .k .0) (l .b) (l .inv .0) (l .inv .2) (l .inv .1) g _ (c .before .before .task-at2 .ensures) in
@@ -86,7 +87,7 @@ returns c =
     let s = c .before .before .before .before .before in
     let l = c .before .loop in
     let e : l .i ≡ 0 = omega arith in
-    from-all (tasksIn (s .args .tasks .now)) (s .pre .few) (l .jobs) (rw e at (l .inv .3))
+    from-all (tasksIn (s .args .gap) (s .args .tasks .now)) (s .pre .few) (l .jobs) (rw e at (l .inv .3))
 
 pub warm-jobs-spec : {M : Type 1} → statement M
 warm-jobs-spec =

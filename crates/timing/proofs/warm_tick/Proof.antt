@@ -8,11 +8,11 @@ use borrow.Author.Needs.{needs}
 use Rattle.timing.proofs.warm_tick.Statement.{statement}
 use Rattle.timing.proofs.warm_tick.Tie as tie
 
-first : (c : tie.After-job-of) → c .job-of .result .0 ≡ warmAt (tasksIn (c .before .before .before .before .args .tasks .now)) 0
-first c = c .job-of .ensures ∙ ap jobOf (c .before .backward-on .ensures) ∙ warm-first-is _ (c .before .before .before .before .pre) _ (in-last (c .before .before .before .before .args .tasks .now)) _ (c .before .before .warm-last .ensures)
+first : (c : tie.After-job-of) → c .job-of .result .0 ≡ warmAt (tasksIn (c .before .before .before .before .args .gap) (c .before .before .before .before .args .tasks .now)) 0
+first c = c .job-of .ensures ∙ ap jobOf (c .before .backward-on .ensures) ∙ warm-first-is _ (c .before .before .before .before .pre) _ (in-last (c .before .before .before .before .args .gap) (c .before .before .before .before .args .tasks .now)) _ (c .before .before .warm-last .ensures)
 
 sub-n : tie.Need-sub-n
-sub-n c = some-place _ (c .before .pre)
+sub-n c = some-place _ _ (c .before .pre)
 
 warm-last-requires : tie.Need-warm-last-requires
 warm-last-requires c κs = search needs
@@ -20,7 +20,7 @@ warm-last-requires c κs = search needs
 backward-on-requires : tie.Need-backward-on-requires
 backward-on-requires c κs =
     let k = c .before .before .pre in
-    (k, omega arith, last-inside _ k, warm-last-fits _ k _ (in-last (c .before .before .args .tasks .now)) _ (c .warm-last .ensures))
+    (k, omega arith, last-inside _ _ k, warm-last-fits _ k _ (in-last (c .before .before .args .gap) (c .before .before .args .tasks .now)) _ (c .warm-last .ensures))
 
 job-of-requires : tie.Need-job-of-requires
 job-of-requires c κs = search needs

@@ -25,7 +25,7 @@ warm-up-on-requires : tie.Need-warm-up-on-requires
 warm-up-on-requires c κs = search needs
 
 returns : tie.Need-returns
-returns c = c .warm-up-on .ensures ∙ warm-up-stands _ _ (front (c .before .before) .stands)
+returns c = c .warm-up-on .ensures ∙ warm-up-stands _ _ _ (front (c .before .before) .stands)
 
 pub warm-up-spec : {M : Type 1} → statement M
 warm-up-spec =

@@ -3,7 +3,7 @@ use native.Mathlib.Omega.{arith}
 use lib.ListN.{getD}
 use Rattle.chain.specs.declared.Verdict.the-variants.{Accepted}
 use Rattle.chain.specs.Checks.{verdictIn, Sound}
-use Rattle.chain.specs.Flat.{tasksIn}
+use Rattle.chain.specs.Flat.{givenIn, tasksIn}
 use Rattle.timing.specs.WarmUp.{warmAt}
 use Rattle.chain.proofs.CheckLaws.{accepted-in}
 use Rattle.timing.proofs.Whole.{warm-tick-is, warm-tick-fits}
@@ -13,13 +13,13 @@ use borrow.Author.Needs.{needs}
 use Rattle.timing.proofs.warm_up_on.Statement.{statement}
 use Rattle.timing.proofs.warm_up_on.Tie as tie
 
-said : (c : tie.After-known-told2) → verdictIn (tasksIn (c .before .before .before .before .before .args .tasks .now)) ≡ Accepted (c .before .v2 .given .0 .0)
+said : (c : tie.After-known-told2) → verdictIn (c .before .before .before .before .before .args .gap) (givenIn (c .before .before .before .before .before .args .tasks .now)) ≡ Accepted (c .before .v2 .given .0 .0)
 said c = sym (c .before .before .before .check-on .ensures) ∙ c .before .v2 .given .1
 
-fine : (c : tie.After-known-told2) → Sound (tasksIn (c .before .before .before .before .before .args .tasks .now))
-fine c = accepted-in _ _ (said c) .sound
+fine : (c : tie.After-known-told2) → Sound (tasksIn (c .before .before .before .before .before .args .gap) (c .before .before .before .before .before .args .tasks .now))
+fine c = accepted-in (c .before .before .before .before .before .args .gap) (givenIn (c .before .before .before .before .before .args .tasks .now)) _ (said c) .sound
 
-first : (c : tie.After-warm-jobs) → getD (c .warm-jobs .result) 0 noJob .0 ≡ warmAt (tasksIn (c .before .before .before .before .before .before .args .tasks .now)) 0
+first : (c : tie.After-warm-jobs) → getD (c .warm-jobs .result) 0 noJob .0 ≡ warmAt (tasksIn (c .before .before .before .before .before .before .args .gap) (c .before .before .before .before .before .before .args .tasks .now)) 0
 first c = let k = fine (c .before) in entry-job _ k _ (c .warm-jobs .ensures) 0 (k .some)
 
 check-on-requires : tie.Need-check-on-requires

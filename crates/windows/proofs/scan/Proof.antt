@@ -14,22 +14,22 @@ use Rattle.windows.proofs.scan.Tie as tie
 
 -- the jobs from s up to before j are counted, and after a turn they are below the goal
 abbrev Inv-jobs : tie.InvT-jobs
-Inv-jobs tasks b k goal last n flags₀ count₀ most i₀ s j₀ flags count i j =
-    (s .0 ≤ j .0) × (j .0 ≤ s .0 + k) × (i < k) × Ring (misses (tasksIn tasks) b) k (s .0) (j .0) i flags × (count ≡ missesIn (misses (tasksIn tasks) b) (s .0) (j .0 - s .0))
+Inv-jobs tasks gap b k goal last n flags₀ count₀ most i₀ s j₀ flags count i j =
+    (s .0 ≤ j .0) × (j .0 ≤ s .0 + k) × (i < k) × Ring (misses (tasksIn gap tasks) b) k (s .0) (j .0) i flags × (count ≡ missesIn (misses (tasksIn gap tasks) b) (s .0) (j .0 - s .0))
     × (j₀ .0 < j .0 → count < goal)
 
 abbrev μ-jobs : tie.MeasureT-jobs
-μ-jobs tasks b k goal last n flags₀ count₀ most i₀ s j₀ flags count i j = last .0 + k + 1 - j .0
+μ-jobs tasks gap b k goal last n flags₀ count₀ most i₀ s j₀ flags count i j = last .0 + k + 1 - j .0
 
 -- the same, the window of s not being whole; and the windows before s are below the goal
 abbrev Inv-starts : tie.InvT-starts
-Inv-starts tasks b k goal last n flags₀ count₀ most₀ i₀ s₀ j₀ flags count most i s j =
-    (s₀ .0 ≤ s .0) × (s .0 ≤ last .0 + 1) × (s .0 ≤ j .0) × (j .0 < s .0 + k) × (i < k) × Ring (misses (tasksIn tasks) b) k (s .0) (j .0) i flags
-    × (count ≡ missesIn (misses (tasksIn tasks) b) (s .0) (j .0 - s .0)) × ((x : ℕ) → s₀ .0 ≤ x → x < s .0 → windowOf (tasksIn tasks) b k x < goal)
-    × (most ≡ largest (windowOf (tasksIn tasks) b k) (s₀ .0) (s .0 - s₀ .0))
+Inv-starts tasks gap b k goal last n flags₀ count₀ most₀ i₀ s₀ j₀ flags count most i s j =
+    (s₀ .0 ≤ s .0) × (s .0 ≤ last .0 + 1) × (s .0 ≤ j .0) × (j .0 < s .0 + k) × (i < k) × Ring (misses (tasksIn gap tasks) b) k (s .0) (j .0) i flags
+    × (count ≡ missesIn (misses (tasksIn gap tasks) b) (s .0) (j .0 - s .0)) × ((x : ℕ) → s₀ .0 ≤ x → x < s .0 → windowOf (tasksIn gap tasks) b k x < goal)
+    × (most ≡ largest (windowOf (tasksIn gap tasks) b k) (s₀ .0) (s .0 - s₀ .0))
 
 abbrev μ-starts : tie.MeasureT-starts
-μ-starts tasks b k goal last n flags₀ count₀ most₀ i₀ s₀ j₀ flags count most i s j = last .0 + 1 - s .0
+μ-starts tasks gap b k goal last n flags₀ count₀ most₀ i₀ s₀ j₀ flags count most i s j = last .0 + 1 - s .0
 
 starts-holds : tie.Need-starts-holds Inv-jobs μ-jobs Inv-starts μ-starts
 starts-holds c =
@@ -64,10 +64,10 @@ add-count : tie.Need-add-count Inv-jobs μ-jobs Inv-starts μ-starts
 add-count c =
     let l = c .before .before .before .before .before in
     let s = l .before .before .before .before .before .before in
-    omega (arith, flag-small _ _ _ _ (c .before .missed .ensures), l .jobs .inv .4, at-most (misses (tasksIn (s .args .tasks .now)) (s .args .b)) (l .jobs .j .0 - l .before .before .before .before .starts .s .0) (l .before .before .before .before .starts .s .0), s .pre .2)
+    omega (arith, flag-small _ _ _ _ (c .before .missed .ensures), l .jobs .inv .4, at-most (misses (tasksIn (s .args .gap) (s .args .tasks .now)) (s .args .b)) (l .jobs .j .0 - l .before .before .before .before .starts .s .0) (l .before .before .before .before .starts .s .0), s .pre .2)
 
-add-t16 : tie.Need-add-t16 Inv-jobs μ-jobs Inv-starts μ-starts
-add-t16 c =
+add-t17 : tie.Need-add-t17 Inv-jobs μ-jobs Inv-starts μ-starts
+add-t17 c =
     let l = c .before .before .before .before .before .before in
     let s = l .before .before .before .before .before .before in
     omega (arith, number-small _ (s .pre .0) (l .jobs .j .0) _ (omega arith) (s .pre .4))
@@ -85,7 +85,7 @@ jobs-again c =
       omega arith,
       rw (c .before .before .next-in .ensures) (next-inside (l .jobs .i) (s .args .k) (l .jobs .inv .2)),
       rw (c .before .before .next-in .ensures) (ring-enters _ _ _ _ _ _ (l .jobs .inv .3) (l .jobs .inv .2) (s .pre .2) _ new),
-      omega (arith, new, l .jobs .inv .4, enters (misses (tasksIn (s .args .tasks .now)) (s .args .b)) (o .starts .s .0) (l .jobs .j .0) (l .jobs .inv .0)),
+      omega (arith, new, l .jobs .inv .4, enters (misses (tasksIn (s .args .gap) (s .args .tasks .now)) (s .args .b)) (o .starts .s .0) (l .jobs .j .0) (l .jobs .inv .0)),
       λ h. c .if3 .left,
     )
 
@@ -104,10 +104,10 @@ sub-count c =
     let o = l .before .before .before .before in
     let s = o .before .before in
     let whole : l .jobs .j .0 ≡ o .starts .s .0 + s .args .k = omega arith in
-    omega (arith, l .jobs .inv .4, ring-first _ _ _ _ _ _ (l .jobs .inv .3) (l .jobs .inv .2) whole, leaves (misses (tasksIn (s .args .tasks .now)) (s .args .b)) (o .starts .s .0) (l .jobs .j .0) (omega (arith, s .pre .1)))
+    omega (arith, l .jobs .inv .4, ring-first _ _ _ _ _ _ (l .jobs .inv .3) (l .jobs .inv .2) whole, leaves (misses (tasksIn (s .args .gap) (s .args .tasks .now)) (s .args .b)) (o .starts .s .0) (l .jobs .j .0) (omega (arith, s .pre .1)))
 
-add-t24 : tie.Need-add-t24 Inv-jobs μ-jobs Inv-starts μ-starts
-add-t24 c =
+add-t25 : tie.Need-add-t25 Inv-jobs μ-jobs Inv-starts μ-starts
+add-t25 c =
     let o = c .before .before .before .before .before .before .before .before .before in
     let s = o .before .before in
     omega (arith, number-small _ (s .pre .0) (o .starts .s .0 + 1) _ (omega (arith, s .pre .1)) (s .pre .4))
@@ -120,8 +120,8 @@ starts-again c =
     let l = c .before .before .before .before .before in
     let o = l .before .before .before .before in
     let s = o .before .before in
-    let miss = misses (tasksIn (s .args .tasks .now)) (s .args .b) in
-    let f = windowOf (tasksIn (s .args .tasks .now)) (s .args .b) (s .args .k) in
+    let miss = misses (tasksIn (s .args .gap) (s .args .tasks .now)) (s .args .b) in
+    let f = windowOf (tasksIn (s .args .gap) (s .args .tasks .now)) (s .args .b) (s .args .k) in
     let whole : l .jobs .j .0 ≡ o .starts .s .0 + s .args .k = omega arith in
     let all : l .jobs .j .0 - o .starts .s .0 ≡ s .args .k = omega arith in
     let has : l .jobs .count ≡ f (o .starts .s .0) = rw all at (l .jobs .inv .4) in (
@@ -146,7 +146,7 @@ returns-2 c =
     let l = c .before .before .before .before .before .before .before in
     let o = l .before .before .before .before in
     let s = o .before .before in
-    let miss = misses (tasksIn (s .args .tasks .now)) (s .args .b) in
+    let miss = misses (tasksIn (s .args .gap) (s .args .tasks .now)) (s .args .b) in
     let count = enters miss (o .starts .s .0) (l .jobs .j .0) (l .jobs .inv .0) in
     let more = grows miss (o .starts .s .0) (l .jobs .j .0 + 1 - o .starts .s .0) (s .args .k) (omega arith) in
     record {
@@ -173,14 +173,14 @@ scan-spec =
     array-write-flags
     next-in-requires
     add-count
-    add-t16
+    add-t17
     jobs-less
     jobs-again
     larger-requires
     mul-count
     array-read-count
     sub-count
-    add-t24
+    add-t25
     starts-less
     starts-again
     returns

@@ -3,8 +3,8 @@ use native.Mathlib.Omega.{arith}
 use native.Mathlib.Nat.{div-le-self}
 use Rattle.task.proofs.Closed.{earliest-zero, earliest-past}
 use borrow.Author.Needs.{needs}
-use Rattle.task.proofs.Task.earliest_after.Statement.{statement}
-use Rattle.task.proofs.Task.earliest_after.Tie as tie
+use Rattle.task.proofs.Place.earliest_after.Statement.{statement}
+use Rattle.task.proofs.Place.earliest_after.Tie as tie
 
 returns : tie.Need-returns
 returns c = earliest-zero _ (c .before .before .before .pre .0) _ (omega arith)

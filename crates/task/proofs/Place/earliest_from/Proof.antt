@@ -4,8 +4,8 @@ use native.Mathlib.Nat.{div-le-self}
 use mathlib.Core.Path.{refl}
 use Rattle.task.proofs.Closed.{earliest-zero, earliest-past}
 use borrow.Author.Needs.{needs}
-use Rattle.task.proofs.Task.earliest_from.Statement.{statement}
-use Rattle.task.proofs.Task.earliest_from.Tie as tie
+use Rattle.task.proofs.Place.earliest_from.Statement.{statement}
+use Rattle.task.proofs.Place.earliest_from.Tie as tie
 
 returns : tie.Need-returns
 returns c = earliest-zero _ (c .before .before .before .pre) _ (c .if1 .taken)
