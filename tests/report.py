@@ -275,11 +275,11 @@ def gaps(r, factor):
             assert reference.report(data).count(b"\n") == 1
             found.add(read[1])
         elif quick_file(read):
-            found.add(read[3] > 0)
+            found.add("with a gap" if read[3] > 0 else "without a gap")
         else:
             continue
         yield data
-    assert {1, 2, 4, 5, True} <= found
+    assert {1, 2, 4, 5, "with a gap"} <= found
 
 
 @group

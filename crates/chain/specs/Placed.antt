@@ -1,4 +1,4 @@
--- A list of tasks at the places of a chain with a gap: as many places, and at each its task.
+-- A list of tasks at the places of a chain with a gap: at each place stands its task. (That there are as many places is `length-map`.)
 use Prim.Native.Nat.{ℕ, zero, suc, _<_}
 use native.Mathlib.Omega.{arith}
 use mathlib.Core.Path.{_≡_, refl}
