@@ -12,8 +12,8 @@ from fractions import Fraction
 
 HERE = os.path.dirname(os.path.abspath(__file__))
 sys.path[:0] = [HERE, os.path.join(os.path.dirname(HERE), "reference")]
-import library
 import meshorchard_reference as reference
+import proved
 
 # A tick is 1 microsecond, the paper's figures are in milliseconds.
 TICKS = 1000
@@ -55,20 +55,20 @@ class Program:
     name = "the program"
 
     def __init__(self):
-        self.calls = library.build()
+        proved.build()
 
     def table(self, tasks, p):
         """The table of a chain cut at place p, as the calls on a table take it."""
         slots = [0] * slots_for(tasks)
-        answer, starts, latencies = self.calls.make(flat(tasks), len(tasks), GAP, p, slots, slots)
+        answer, starts, latencies = proved.make(flat(tasks), len(tasks), GAP, p, slots, slots)
         g, _, h, _ = values(answer)
-        return (library.table(starts, latencies, g, h),)
+        return (proved.Table(starts, latencies, g, h),)
 
     def windows(self, tasks, bound):
-        return values(self.calls.windows(flat(tasks), len(tasks), GAP, bound, WINDOW))[0]
+        return values(proved.windows(flat(tasks), len(tasks), GAP, bound, WINDOW))[0]
 
     def figure(self, name, *arguments):
-        return values(getattr(self.calls, name)(*arguments))
+        return values(getattr(proved, name)(*arguments))
 
 
 class Reference:

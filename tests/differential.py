@@ -18,8 +18,8 @@ import time
 HERE = os.path.dirname(os.path.abspath(__file__))
 sys.path[:0] = [HERE, os.path.join(os.path.dirname(HERE), "reference")]
 import inputs
-import library
 import meshorchard_reference as reference
+import proved
 
 GROUPS = []
 # The name under which 5 at place 0 of a call on a chain or a schedule is counted.
@@ -66,13 +66,6 @@ class Comparison:
         self.lately = set()
 
 
-def padded(answer):
-    """The reference's warm-up with the zeros that the array has past the places."""
-    if answer[0] == "ok":
-        return ("ok", answer[1] + [0] * (12 - len(answer[1])), answer[2], answer[3])
-    return answer
-
-
 def note_links(tasks, gap, warm, compare):
     """What an accepted chain shows of gaps: whether it has links and a gap, and whether on its way of the warm-up a value becomes readable just when a job
     of the next place reads, or one tick later."""
@@ -106,7 +99,7 @@ def chains(ours, r, factor, compare):
         compare.same(ours.check(numbers, n, gap), checked, "check", tasks, gap)
         compare.meet_call(checked)
         warm = reference.warm_up(tasks, gap)
-        compare.same(ours.warm_up(numbers, n, gap), padded(warm), "warm-up", tasks, gap)
+        compare.same(ours.warm_up(numbers, n, gap), warm, "warm-up", tasks, gap)
         note_links(tasks, gap, warm, compare)
         middles = []
         if warm[0] == "ok":
@@ -124,7 +117,7 @@ def chains(ours, r, factor, compare):
             numbers, t = lent(r, tasks), r.choice([0, 10**5, 10**5 + 1, inputs.UPPER + 1])
             compare.meet_call(reference.check_chain(tasks, gap))
             compare.same(ours.check(numbers, n, gap), reference.check_chain(tasks, gap), "check", tasks, gap)
-            compare.same(ours.warm_up(numbers, n, gap), padded(reference.warm_up(tasks, gap)), "warm-up", tasks, gap)
+            compare.same(ours.warm_up(numbers, n, gap), reference.warm_up(tasks, gap), "warm-up", tasks, gap)
             compare.same(ours.delay(numbers, n, gap, t), reference.delay(tasks, gap, t), "delay", tasks, gap, t)
             compare.same(ours.age(numbers, n, gap, t), reference.age(tasks, gap, t), "age", tasks, gap, t)
             compare_making(ours, r, tasks, gap, numbers, r.randint(0, n), (12, 12), compare)
@@ -146,7 +139,7 @@ def lists_of_tasks(ours, r, factor, compare):
         compare.same(ours.warm_up(numbers, places, gap), eight, "length", numbers, gap)
         whole = inputs.flat(tasks)
         # The last two would be the right count to a call that kept fewer bits.
-        for places in (len(tasks) + 1, 13, 2**63, library.LARGEST, len(tasks) + 2**32, len(tasks) + 2**63):
+        for places in (len(tasks) + 1, 13, 2**63, proved.LARGEST, len(tasks) + 2**32, len(tasks) + 2**63):
             compare.same(ours.age(whole, places, gap, 100), eight, "places", whole, places, gap)
             compare.same(ours.check(whole, places, gap), eight, "places", whole, places, gap)
 
@@ -178,7 +171,7 @@ def making(ours, r, factor, compare):
         if answer[0] != "ok":
             continue
         _, g, x0, h, _ = answer
-        table = library.table(starts, latencies, g, h)
+        table = proved.Table(starts, latencies, g, h)
         ticks = [x0, x0 + h, inputs.UPPER, inputs.UPPER - r.randint(0, 3 * h), r.randint(x0, inputs.UPPER)]
         for start in starts[:g]:
             ticks += [start, max(x0, start - 1), start + h * r.randint(1, 10**6 // h + 1)]
@@ -211,7 +204,7 @@ def longest_latencies(ours, r, factor, compare):
                 continue
             if latencies[0] in LONG_LATENCIES:
                 compare.note(latencies[0])
-            table = library.table(starts, latencies, 1, answer[3])
+            table = proved.Table(starts, latencies, 1, answer[3])
             for step in (0, 1, 2, 999998, 999999, 1000000, r.randint(0, 10**9)):
                 t = starts[0] + step
                 compare.same(ours.read_table(table, t), ours.delay(numbers, places, gap, t), "table and walk", tasks, gap, t)
@@ -251,7 +244,7 @@ def making_refused(ours, r, factor, compare):
             tasks = inputs.cut_chain(r)
         tasks, gap = inputs.any_linked(r, tasks)
         numbers = lent(r, tasks)
-        for p in (0, len(tasks) + 1, 13, library.LARGEST, r.randint(0, 13)):
+        for p in (0, len(tasks) + 1, 13, proved.LARGEST, r.randint(0, 13)):
             size = r.randint(0, 5)
             compare_making(ours, r, tasks, gap, numbers, p, (size, size + r.choice([0, 0, 1])), compare)
     compare.must_meet("ok", 5, OF_GAP, 7, 8, 9, 10, 11)
@@ -259,7 +252,7 @@ def making_refused(ours, r, factor, compare):
 
 def window_bounds(r, tasks, gap, warm):
     """Bounds around the real spans of a job after W1, from its read to its forward end, and the ends of 64 bits."""
-    bounds = [0, library.LARGEST, r.randint(0, 100)]
+    bounds = [0, proved.LARGEST, r.randint(0, 100)]
     if warm[0] == "ok":
         j = warm[1][0] + 1 + r.randrange(warm[3] // tasks[0][0])
         span = reference.write_of(tasks[-1], reference.forward(tasks, gap, 1, j)) - reference.read_of(tasks[0], j)
@@ -293,7 +286,7 @@ def windows(ours, r, factor, compare):
         tasks, gap = inputs.linked(r, inputs.wide_window_chain(r) if i % 25 == 0 else inputs.cut_chain(r))
         numbers, warm = lent(r, tasks), reference.warm_up(tasks, gap)
         note_links(tasks, gap, warm, compare)
-        for k in r.sample([0, 1, 2, 3, r.randint(4, 12), r.randint(4, 100), 99, 100, 101, library.LARGEST], 4):
+        for k in r.sample([0, 1, 2, 3, r.randint(4, 12), r.randint(4, 100), 99, 100, 101, proved.LARGEST], 4):
             b = r.choice(window_bounds(r, tasks, gap, warm))
             theirs = compare_windows(ours, numbers, tasks, gap, b, k, compare)
             if theirs[0] == "ok":
@@ -310,7 +303,7 @@ def windows_refused(ours, r, factor, compare):
             tasks = [*tasks, *tasks, inputs.faulty_task(r)] if r.random() < 0.5 else inputs.cut_chain(r)
         tasks, gap = inputs.any_linked(r, tasks)
         numbers = lent(r, tasks)
-        for k in (0, 1, 101, 2**32 + 1, library.LARGEST):
+        for k in (0, 1, 101, 2**32 + 1, proved.LARGEST):
             compare_windows(ours, numbers, tasks, gap, inputs.any_number(r), k, compare)
     compare.must_meet("ok", 5, OF_GAP, 7, 8, 15)
 
@@ -324,7 +317,7 @@ def compare_table(ours, r, anchors, ticks, most, compare):
     """A well-formed table, with rubbish past its anchors: its figures, its readings at these ticks and around its corners, its exceedances."""
     starts, latencies, h = anchors
     table = (*inputs.with_rest(r, starts, latencies), len(starts), h)
-    lent = library.table(*table)
+    lent = proved.Table(*table)
     compare.same(reference.well_formed(*table), True, "well-formed", table)
     compare_figures(ours, lent, table, compare)
     for t in [*ticks, *inputs.table_ticks(r, starts, h)]:
@@ -357,7 +350,7 @@ def damaged_tables(ours, r, factor, compare):
     for damaged in inputs.DAMAGES:
         for _ in range(int(1000 * factor)):
             table = damaged(r)
-            lent = library.table(*table)
+            lent = proved.Table(*table)
             t, b = inputs.any_number(r), inputs.any_number(r)
             if table[0]:
                 t = r.choice([t, table[0][0]])
@@ -380,7 +373,7 @@ def told(schedule):
     chain_count = schedule.chain_count if schedule.chain_count <= len(places) else 0
     rows = []
     for c in range(chain_count):
-        start, n = library.CHAIN * c, places[c]
+        start, n = proved.ROW * c, places[c]
         rows.append((n, chains[start:start + n]) if start + n <= len(chains) else (0, []))
     return count, [tuple(tasks[i:i + 4]) for i in range(0, len(tasks), 4)], chain_count, rows, schedule.gap
 
@@ -402,10 +395,9 @@ def compare_reading(ours, data, compare, past=b""):
     if mine[0] != "ok" or mine != theirs:
         return
     compare.note("with a gap" if theirs[3] else "without a gap")
-    _, tasks, chains, places, (count, chain_count, gap) = ours.read_file_as_lent(data, past)
-    schedule = library.Schedule(tasks, count, chains, places, chain_count, gap)
+    schedule = ours.read_as_lent(data, past)[1]
     # Just as many lent bytes, or more, which keep their content.
-    rest = b"rest" if count % 2 else b""
+    rest = b"rest" if schedule.count % 2 else b""
     written = ours.write_file(schedule, bytes(len(data)) + rest)
     compare.same(written, (("ok", len(data)), data + rest), "reading and writing", data)
     # Each of the chains in turn, from file to file.
@@ -576,14 +568,14 @@ def writing(ours, r, factor, compare):
 
 def other_numbers(chain_count):
     """Numbers of chains that are in no schedule of so many; the last would be right to a call that kept fewer bits."""
-    return [0, chain_count + 1, 5, 12, 13, library.LARGEST, 2**32 + 1, 2**63 + 1]
+    return [0, chain_count + 1, 5, 12, 13, proved.LARGEST, 2**32 + 1, 2**63 + 1]
 
 
 def compare_refused(ours, r, schedule, size, compare):
     """A schedule that is refused, or hardly not: every call on it gives the same refusal, whatever numbers of chains and whatever tick it is given."""
     said = told(schedule)
     compare_writing(ours, r, schedule, said, size, compare)
-    number, other = r.choice([1, 1, 2, 3, 4, *other_numbers(4)]), r.choice([1, 2, 3, 4, 0, library.LARGEST])
+    number, other = r.choice([1, 1, 2, 3, 4, *other_numbers(4)]), r.choice([1, 2, 3, 4, 0, proved.LARGEST])
     compare_choosing(ours, schedule, said, [number], compare)
     t = r.choice([0, 0, inputs.UPPER, inputs.UPPER + 1, r.randint(0, 10**7)])
     fault = reference.schedule_fault(*said)
@@ -636,19 +628,19 @@ def schedules_refused(ours, r, factor, compare):
         compare.must_meet(OF_GAP)
         for c, chain in enumerate(chains):
             for place, number in inputs.faulty_chain(r, tasks, chain, past[::4]):
-                strange = inputs.replaced(schedule.chains, library.CHAIN * c + place, number)
+                strange = inputs.replaced(schedule.chains, proved.ROW * c + place, number)
                 compare_refused(ours, r, schedule._replace(chains=strange), r.choice(lent_sizes(r, length)), compare)
             compare.must_meet(6)
         # Lists that hold as many as the counts say, where a list can.
         long = schedule._replace(tasks=inputs.flat((tasks * 40)[:40]), chains=(schedule.chains * 80)[:80], places=[*schedule.places[:len(chains)], 1, 1, 1, 1])
-        for other in [0, 33, 34, 40, *[count + many for many in inputs.MANY], library.LARGEST]:
+        for other in [0, 33, 34, 40, *[count + many for many in inputs.MANY], proved.LARGEST]:
             compare_refused(ours, r, long._replace(count=other), r.choice([length, 2000]), compare)
         compare.must_meet(8)
-        for other in [0, 5, 6, *[len(chains) + many for many in inputs.MANY], library.LARGEST]:
+        for other in [0, 5, 6, *[len(chains) + many for many in inputs.MANY], proved.LARGEST]:
             compare_refused(ours, r, long._replace(chain_count=other), r.choice([length, 2000]), compare)
         compare.must_meet(8)
         for c in range(len(chains)):
-            for other in [0, 13, 14, 40, *[schedule.places[c] + many for many in inputs.MANY], library.LARGEST]:
+            for other in [0, 13, 14, 40, *[schedule.places[c] + many for many in inputs.MANY], proved.LARGEST]:
                 compare_refused(ours, r, long._replace(places=inputs.replaced(long.places, c, other)), r.choice([length, 2000]), compare)
             compare.must_meet(8)
     for _ in range(int(3000 * factor)):
@@ -660,13 +652,13 @@ def schedules_refused(ours, r, factor, compare):
 def cut_short(r, schedule):
     """The schedule with each of its lists, and with several, too short for its counts or of no whole tasks: the rest lies in memory past the list, or nothing does."""
     tasks, last = 4 * schedule.count, schedule.chain_count - 1
-    least = library.CHAIN * last + schedule.places[last]
+    least = proved.ROW * last + schedule.places[last]
     for lengths in (
         (tasks - 4, None, None),
         (r.randrange(tasks), None, None),
         (tasks - r.choice([1, 2, 3]), None, None),
         (None, least - 1, None),
-        (None, library.CHAIN * last, None),
+        (None, proved.ROW * last, None),
         (None, r.randrange(least), None),
         (None, None, last),
         (None, None, r.randrange(last + 1)),
@@ -686,7 +678,7 @@ def cut_short(r, schedule):
 def just_held(r, schedule):
     """The schedule in lists that just hold it, in memory that goes on or not, and in longer ones."""
     tasks, last = 4 * schedule.count, schedule.chain_count - 1
-    least = library.CHAIN * last + schedule.places[last]
+    least = proved.ROW * last + schedule.places[last]
     yield schedule._replace(lengths=(tasks, least, last + 1))
     yield schedule._replace(tasks=schedule.tasks[:tasks], chains=schedule.chains[:least], places=schedule.places[:last + 1])
     yield schedule._replace(chains=schedule.chains + [inputs.any_number(r) for _ in range(r.randint(1, 60))], places=schedule.places + [inputs.any_number(r)] * r.randint(1, 9))
@@ -704,7 +696,7 @@ def lists_of_schedules(ours, r, factor, compare):
             short = short._replace(gap=r.choice([schedule.gap, r.choice(inputs.FAULTY_GAPS)]))
             compare.same(reference.schedule_fault(*told(short)), eight, "lists", short)
             compare.same(ours.write_file(short, out), (eight, out), "lists", short)
-            number = r.choice([1, len(chains), 0, library.LARGEST])
+            number = r.choice([1, len(chains), 0, proved.LARGEST])
             compare.same(ours.chain_of_schedule(short, number), eight, "chain of lists", short, number)
             compare.same(ours.bookings(short, number, 1, 0), eight, "bookings of lists", short, number)
         for held in just_held(r, schedule):
@@ -742,7 +734,7 @@ def compare_analyses(ours, r, schedule, number, tasks, compare):
     warm = reference.warm_up_of(*said)
     compare.meet_call(warm)
     note_links(tasks, schedule.gap, warm, compare)
-    compare.same(analysed(ours, schedule, number, ours.warm_up), padded(warm), "warm-up", schedule, number)
+    compare.same(analysed(ours, schedule, number, ours.warm_up), warm, "warm-up", schedule, number)
     x0, h = warm[2:] if warm[0] == "ok" else (0, 12)
     for t in inputs.ticks_around(r, [x0, x0 + h], 4):
         compare.same(analysed(ours, schedule, number, ours.delay, t), reference.delay_of(*said, t), "delay", schedule, number, t)
@@ -757,7 +749,7 @@ def compare_analyses(ours, r, schedule, number, tasks, compare):
     compare.same(mine, theirs if warm[0] == "ok" or warm[1] == 7 else theirs[0], "making", schedule, number, p)
     if mine[0][0] == "ok":
         _, g, x0, h, _ = mine[0]
-        table = library.table(*mine[1:], g, h)
+        table = proved.Table(*mine[1:], g, h)
         for t in (x0, x0 + r.randrange(h), r.randint(x0, inputs.UPPER), inputs.UPPER):
             compare.same(ours.read_table(table, t), analysed(ours, schedule, number, ours.delay, t), "table and walk", schedule, number, t)
 
@@ -775,7 +767,7 @@ def chosen_chains(ours, r, factor, compare):
             c = r.randrange(len(chains))
             faulty = r.choice([
                 schedule._replace(tasks=inputs.replaced(schedule.tasks, 4 * r.randrange(schedule.count) + 1, 0)),
-                schedule._replace(chains=inputs.replaced(schedule.chains, library.CHAIN * c, 0)),
+                schedule._replace(chains=inputs.replaced(schedule.chains, proved.ROW * c, 0)),
                 schedule._replace(places=inputs.replaced(schedule.places, c, 13)),
                 schedule._replace(gap=r.choice(inputs.FAULTY_GAPS)),
             ])
@@ -892,9 +884,9 @@ def bookings_refused(ours, r, factor, compare):
             schedule._replace(gap=beyond, tasks=inputs.replaced(schedule.tasks, 4 * schedule.count - 2, 0)),
             schedule._replace(gap=4),
         ]
-        numbers = [0, 1, 2, 3, 4, 5, library.LARGEST]
+        numbers = [0, 1, 2, 3, 4, 5, proved.LARGEST]
         for lent, first, second in itertools.product(faulty, numbers, numbers):
-            for t in r.sample([0, 2, 3, 62, 63, inputs.UPPER, inputs.UPPER + 1, library.LARGEST], 4):
+            for t in r.sample([0, 2, 3, 62, 63, inputs.UPPER, inputs.UPPER + 1, proved.LARGEST], 4):
                 compare_bookings(ours, lent, first, second, t, compare)
         compare.must_meet("ok", 5, OF_GAP, 6, 7, 8, 12, 13, 16)
 
@@ -903,7 +895,7 @@ def outcome(job):
     """What one group found: comparisons, disagreements, the first few of them, the answers met, and its time. It runs in a process of its own."""
     at, seed, count = job
     run, compare, began = GROUPS[at], Comparison(), time.time()
-    run(library.Library(library.SHARED), random.Random(f"{seed} {run.__name__}"), count, compare)
+    run(proved, random.Random(f"{seed} {run.__name__}"), count, compare)
     return compare.made, len(compare.wrong), compare.wrong[:5], compare.met, time.time() - began
 
 
@@ -912,7 +904,7 @@ def main():
     parser.add_argument("--count", type=float, default=1.0, help="how much longer than usual")
     parser.add_argument("--seed", type=int, default=20261115)
     chosen = parser.parse_args()
-    library.build()
+    proved.build()
     print(f"differential test, seed {chosen.seed}, count {chosen.count}", flush=True)
     passed = failed = 0
     with multiprocessing.get_context("fork").Pool() as pool:

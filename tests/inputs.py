@@ -3,8 +3,8 @@ import itertools
 import math
 import struct
 
-from library import CHAIN as ENTRIES
-from library import Schedule
+from proved import ROW as ENTRIES
+from proved import Schedule
 
 LARGEST = 2**64 - 1
 UPPER = 10**12

@@ -20,11 +20,10 @@ import time
 
 HERE = os.path.dirname(os.path.abspath(__file__))
 TOP = os.path.dirname(HERE)
-sys.path[:0] = [HERE, os.path.join(TOP, "reference"), os.path.join(TOP, "examples")]
+sys.path[:0] = [HERE, os.path.join(TOP, "reference")]
 import inputs
-import library
-import make
 import meshorchard_reference as reference
+import proved
 
 PROGRAM = os.path.join(TOP, "target", "bin", "chainreport")
 # The reference walks every partition, and below this every tick.
@@ -57,37 +56,28 @@ def sizes(r, text):
     return [len(text) + 9, len(text), r.randrange(len(text)), *inside, *r.sample(starts, min(1, len(starts)))]
 
 
-def called(calls, r, data, text):
+def called(r, data, text):
     """Whether the call leaves this text in lent bytes, as much of it as fits, and answers its length."""
     for size in sizes(r, text):
         old = r.randbytes(size)
-        if calls.report(data, old) != (len(text), (text + old[len(text):])[:size]):
+        if proved.report(data, old) != (len(text), (text + old[len(text):])[:size]):
             return False
     return True
 
 
-def rightly_called(calls, r, data, text):
+def rightly_called(r, data, text):
     """The same for the 4,096 bytes that the program judges, and for all of a longer input, which no schedule file is."""
-    if not called(calls, r, data[:4096], text):
+    if not called(r, data[:4096], text):
         return False
-    return len(data) <= 4096 or called(calls, r, data, b"refused %d %d\n" % reference.read_file(data)[1:])
+    return len(data) <= 4096 or called(r, data, b"refused %d %d\n" % reference.read_file(data)[1:])
 
 
 # ---- files
 
-def gap_record(value):
-    return make.record(4, make.number(value, 2))
-
-
-def records(tasks, chains, gap):
-    """The records of a schedule: numbered tasks (number, T, D, F), the task numbers of each chain, and the gap where it is not 0."""
-    return [*[make.task_record(*task) for task in tasks], *[make.chain_record(chain) for chain in chains], *([gap_record(gap)] if gap else []), make.END]
-
-
 def file_of(r, chains):
     """The records of a schedule with these chains of (T, D, F): without a gap, or with any, or with one that decides a link."""
     gap = r.choice([inputs.file_gap(r), inputs.some_gap(r, *chains)])
-    return records(*inputs.numbered(r, chains), gap)
+    return inputs.records(*inputs.numbered(r, chains), gap)
 
 
 def partitions(places):
@@ -170,7 +160,7 @@ def worked(r, factor):
         ([(1, 3, 2, 1), (2, 7, 5, 2), (3, 4, 4, 0)], [1, 2, 3], 4, ["warm 1", "a 1 31"]),
         ([(i + 1, 1000000, 4000000, 999 * i) for i in range(12)], list(range(1, 13)), 1000, ["warm 0", "a 0 60010989", "max 60010989", "low 59010989"]),
     ):
-        data = b"".join(records(tasks, [chain], gap))
+        data = b"".join(inputs.records(tasks, [chain], gap))
         assert set(lines) <= set(reference.report(data).decode().splitlines()), lines
         yield data
 
@@ -241,9 +231,9 @@ def damaged(r, factor):
         some = file_of(r, quick_chains(r, r.choice([1, 1, 2, 3, 4])))
         for _ in range(r.choice([0, 1, 1, 2])):
             at = r.randrange(len(some))
-            other = [make.END, make.task_record(r.randint(0, 9), *inputs.edge_task(r)), gap_record(r.choice(inputs.GAP_VALUES + inputs.OTHER_VALUES))]
+            other = [inputs.END_RECORD, inputs.task_record(r.randint(0, 9), *inputs.edge_task(r)), inputs.gap_record(r.choice(inputs.GAP_VALUES + inputs.OTHER_VALUES))]
             some[at:at + r.choice([0, 1])] = r.choice([[], [r.choice(some)], [r.choice(other)]])
-            some = some or [make.END]
+            some = some or [inputs.END_RECORD]
         data = bytearray(b"".join(some))
         for _ in range(r.choice([0, 0, 1, 1, 2])):
             data[r.randrange(len(data))] = r.choice([0, 1, 2, 3, 4, 6, 18, 255, r.randrange(256)])
@@ -289,7 +279,7 @@ def many(r, factor):
     for _ in range(int(30 * factor)):
         for count, sizes in ((32, [12]), (33, [12]), (32, [13]), (1, [1]), (32, [r.randint(0, 13)]), (32, [12] * 4), (32, [12] * 5), (2, [1] * r.randint(0, 6)), (3, [1, 2, r.randint(0, 13)])):
             tasks = [(2 * i + 1, *inputs.small_task(r)) for i in range(count)]
-            data = b"".join(records(tasks, [[r.choice(tasks)[0] for _ in range(places)] for places in sizes], inputs.file_gap(r)))
+            data = b"".join(inputs.records(tasks, [[r.choice(tasks)[0] for _ in range(places)] for places in sizes], inputs.file_gap(r)))
             found.add(refusals(data).get(0, (0,))[0])
             yield data
     assert found == {0, 2, 4}
@@ -304,11 +294,11 @@ def long(r, factor):
         for end in (4095, 4096, 4097, r.randint(4098, 65535)):
             # A record of an unknown kind that ends there: it is 3 where the first 4,096 bytes hold it, else 1.
             size = end - len(start)
-            data = start + make.number(size, 2) + make.number(9, 2) + bytes(size - 4)
+            data = start + inputs.record(9, bytes(size - 4))
             found.add(reference.read_file(data[:4096])[1])
             yield data
             yield data + bytes(r.randint(1, 5000))
-        yield start + make.END + bytes(r.randint(1, 70000))
+        yield start + inputs.END_RECORD + bytes(r.randint(1, 70000))
     assert found == {1, 3}
 
 
@@ -323,15 +313,13 @@ def short(r, factor):
 
 @group
 def examples(r, factor):
-    """examples/: each file is what its description says, and its report what the program prints"""
-    names = sorted(glob.glob(os.path.join(TOP, "examples", "*.txt")))
+    """examples/: the report beside each file is what the program prints"""
+    names = sorted(glob.glob(os.path.join(TOP, "examples", "*.schedule")))
     assert len(names) >= 4
     for name in names:
-        with open(name, encoding="ascii") as described:
-            data, report = make.described(described.read())
-        with open(name[:-4] + ".schedule", "rb") as kept:
-            assert kept.read() == data, name
-        assert report.encode() == reference.report(data), name
+        with open(name, "rb") as file, open(name[:-9] + ".report", "rb") as report:
+            data = file.read()
+            assert report.read() == reference.report(data), name
         yield data
 
 
@@ -351,7 +339,7 @@ def failures():
         broken.write(bytes(3))
         broken.flush()
         # Two periods with a hyperperiod above the limit, then a chain that has a table.
-        file = b"".join(records([(1, 769, 1, 0), (2, 78125, 1, 0), (3, 7, 1, 0)], [[1, 2], [3]], 5))
+        file = b"".join(inputs.records([(1, 769, 1, 0), (2, 78125, 1, 0), (3, 7, 1, 0)], [[1, 2], [3]], 5))
         second = reference.report(file)
         refused.write(file)
         refused.flush()
@@ -376,7 +364,7 @@ def main():
     parser.add_argument("--seed", type=int, default=20261115)
     chosen = parser.parse_args()
     build()
-    calls = library.build()
+    proved.build()
     print(f"chainreport and mo_report against the reference, seed {chosen.seed}, count {chosen.count}")
     passed = failed = files = 0
     for run in GROUPS:
@@ -388,7 +376,7 @@ def main():
                 mine, other = printed(data), reference.report(data)
                 if mine != other:
                     wrong.append((data, mine, other))
-                elif not rightly_called(calls, lengths, data, other):
+                elif not rightly_called(lengths, data, other):
                     wrong.append((data, b"(by the call)", other))
         except AssertionError as fault:
             broken = f", not as it should be {fault}"

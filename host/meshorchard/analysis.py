@@ -1,0 +1,132 @@
+"""What the proved calls say of a chain: its table, its figures, the way of a press and of a leg, and how two chains are booked.
+
+The numbers are those of the calls. What is done here beside them: the read of a job is its write less the task's duration, its number is how many periods lie
+between phase and read, and both are as whole as the definitions say, or an error.
+"""
+from __future__ import annotations
+
+from array import array
+from dataclasses import dataclass
+from fractions import Fraction
+from typing import List, Optional
+
+from . import calls
+from .lent import Chain, Table
+from .refusals import Refused
+
+# The slots that a table has at first; as many as the instrument's report has.
+SLOTS = 1024
+
+
+class Disagreement(Exception):
+    """Two calls that must agree do not."""
+
+
+@dataclass(frozen=True)
+class Job:
+    """A job on a way: its place, counted from 1, its number, counted from 0, its read and its write."""
+
+    place: int
+    number: int
+    read: int
+    write: int
+
+
+def job_written(chain: Chain, place: int, write: int) -> Job:
+    """The job of a place that writes at this tick."""
+    period, duration, phase = chain.task(place)
+    read = write - duration
+    number, rest = divmod(read - phase, period)
+    if number < 0 or rest:
+        raise Disagreement(f"no job of place {place} writes at {write}")
+    return Job(place, number, read, write)
+
+
+def way_of_press(chain: Chain, t: int) -> List[Job]:
+    """The jobs that carry what a press at t waits for, one for each place. The delay along the first places ends with the write of the last of them."""
+    return [job_written(chain, place, t + calls.delay(chain.front(place), t)) for place in range(1, chain.places + 1)]
+
+
+def way_of_leg(chain: Chain, z: int) -> List[Job]:
+    """The jobs through which the newest reading came that a leg at z is booked from, one for each place. From the last place back: the age at one place alone ends at
+    the read of its latest job that is readable. The front parts of the chain must have the same age at the same ticks."""
+    jobs, asked, tick = [], [], z
+    for place in range(chain.places, 0, -1):
+        read = tick - calls.age(chain.single(place), tick)
+        jobs.append(job_written(chain, place, read + chain.task(place)[1]))
+        asked.append((place, tick))
+        tick = read - chain.gap
+    for place, tick in asked:
+        if calls.age(chain.front(place), tick) != tick - jobs[-1].read:
+            raise Disagreement(f"the age of the first {place} places at tick {tick} is another than that of the way")
+    return jobs[::-1]
+
+
+def first_leg(chain: Chain) -> int:
+    """The first tick at which a leg has an age: the write of the last warm-up job. The age there is asked for, and a tick earlier it is refused."""
+    period, duration, phase = chain.task(chain.places)
+    tick = phase + calls.warm_up(chain).jobs[-1] * period + duration
+    calls.age(chain, tick)
+    try:
+        calls.age(chain, tick - 1)
+    except Refused as refused:
+        if refused.number == 12:
+            return tick
+    raise Disagreement(f"a leg before tick {tick} has an age")
+
+
+@dataclass(frozen=True)
+class Figures:
+    """A chain's table and what it says. The low is a delay that is not reached; the mean is of every time, not of whole ticks alone."""
+
+    table: Table
+    warm: int
+    hyperperiod: int
+    walked: int
+    greatest: int
+    low: int
+    mean: Fraction
+    # The earliest press of the first hyperperiod with the greatest delay.
+    worst: int
+
+
+def cut_of(chain: Chain) -> int:
+    """The place at which making takes least work: the first with the longest period. The table is the same at any."""
+    periods = [chain.task(place)[0] for place in range(1, chain.places + 1)]
+    return periods.index(max(periods)) + 1
+
+
+def made(chain: Chain, slots: int = SLOTS) -> Figures:
+    """The table of a chain and its figures. Where the table has more anchors than slots, it is made again with as many as it has."""
+    starts, latencies = array("Q", bytes(8 * slots)), array("Q", bytes(8 * slots))
+    try:
+        making = calls.make_table(chain, cut_of(chain), starts, latencies)
+    except Refused as refused:
+        if refused.number != 11:
+            raise
+        return made(chain, refused.made.anchors)
+    del starts[making.anchors:], latencies[making.anchors:]
+    table = Table(starts, latencies, making.anchors, making.hyperperiod)
+    top, mean = calls.greatest(table), calls.mean(table)
+    return Figures(table, making.tick, making.hyperperiod, making.walked, top, calls.low(table), Fraction(mean.doubled_area, mean.doubled_ticks), starts[latencies.index(top)])
+
+
+def jobs_between(chain: Chain, place: int, first: int, last: int, most: int) -> Optional[List[Job]]:
+    """The jobs of a place that read from tick first to tick last, or nothing where there are more than so many. One after another: what a press at the read of a job
+    waits for is the next job."""
+    single = chain.single(place)
+    warm = calls.warm_up(single).tick
+    # The press at a tick waits for a job that reads after it.
+    tick, jobs = first - 1, []
+    if tick < warm:
+        if warm >= first:
+            jobs.append(job_written(single, 1, warm + single.task(1)[1]))
+        tick = warm
+    while True:
+        job = job_written(single, 1, tick + calls.delay(single, tick))
+        if job.read > last:
+            return [Job(place, each.number, each.read, each.write) for each in jobs if each.read <= last]
+        jobs.append(job)
+        if len(jobs) > most:
+            return None
+        tick = job.read

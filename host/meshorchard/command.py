@@ -1,0 +1,286 @@
+"""The command for clubs and makers: its arguments, what each command prints and writes, and its status: 0, or 1 where something is refused, or 2 for wrong use."""
+from __future__ import annotations
+
+import argparse
+import os
+import sys
+import traceback
+from typing import List, Optional
+
+from . import analysis, calls, curve, limits, measures, page, refusals, text, words
+from .lent import Chain, Schedule
+from .library import Missing
+from .refusals import Refused
+
+PROGRAM = "./meshorchard"
+# What chainreport looks at of its input.
+REPORTED = 4096
+STREAM = "-"
+
+
+class Stop(Exception):
+    """Wrong use, or a file that cannot be read or written: status 2."""
+
+
+class Unsound(Exception):
+    """A file or a text that is refused, in words: status 1."""
+
+
+def shown(path: str, of: str = "standard input") -> str:
+    return of if path == STREAM else path
+
+
+def read(path: str) -> bytes:
+    try:
+        if path == STREAM:
+            return sys.stdin.buffer.read()
+        with open(path, "rb") as file:
+            return file.read()
+    except OSError as fault:
+        raise Stop(f"{shown(path)} cannot be read: {fault.strerror}") from None
+
+
+def write(path: str, data: bytes, source: str) -> None:
+    """Writes a file; never over the one that was read."""
+    if STREAM not in (path, source) and os.path.exists(path) and os.path.samefile(path, source):
+        raise Stop(f"{path} is what was read; name another file to write")
+    try:
+        if path == STREAM:
+            sys.stdout.buffer.write(data)
+            sys.stdout.buffer.flush()
+            return
+        with open(path, "wb") as file:
+            file.write(data)
+    except OSError as fault:
+        raise Stop(f"{shown(path, 'standard output')} cannot be written: {fault.strerror}") from None
+
+
+def say(lines: List[str], to=None) -> None:
+    print("\n".join(lines), file=to or sys.stdout)
+
+
+def schedule_of(path: str) -> Schedule:
+    """The schedule of a file; in words why it is none."""
+    data = read(path)
+    try:
+        return calls.read_file(data)
+    except Refused as refused:
+        hint = ""
+        if data.lstrip().startswith((b"task", b"#")):
+            hint = f" It looks like a text; `{PROGRAM} write {shown(path, STREAM)} FILE` makes a file of it."
+        raise Unsound(words.of_file(shown(path), data, refused) + hint) from None
+
+
+def chain_of(schedule: Schedule, path: str, number: int) -> Chain:
+    """A chain of a schedule by its number."""
+    try:
+        return calls.chain_of_schedule(schedule, number)
+    except Refused as refused:
+        has = measures.counted(schedule.chain_count, "chain")
+        raise Unsound(f"chain {number:,} is refused with {refused.number}: {shown(path)} has {has}, numbered from 1.") from None
+
+
+def on_chain(schedule: Schedule, number: int, ask):
+    """What a call on a chain says, or why it refuses."""
+    try:
+        return ask()
+    except Refused as refused:
+        raise Unsound(words.of_chain(schedule, number, refused)) from None
+
+
+# ---- The commands
+
+def do_write(asked) -> int:
+    try:
+        schedule = text.read(text.decoded(read(asked.text)))
+    except text.WrongLine as wrong:
+        raise Unsound(f"{shown(asked.text)}, {wrong}") from None
+    data = limits.file_of(schedule)
+    write(asked.file, data, asked.text)
+    # What is shown is what stands in the file now.
+    if asked.file != STREAM and os.path.isfile(asked.file):
+        if read(asked.file) != data:
+            raise Stop(f"{asked.file} does not hold what was written to it")
+        data = read(asked.file)
+    name = shown(asked.file, "standard output")
+    lines = [f"{name}: {len(data)} bytes; the instrument will read", text.canonical(calls.read_file(data)).rstrip("\n")]
+    say(lines, sys.stderr if asked.file == STREAM else sys.stdout)
+    return 0
+
+
+def do_text(asked) -> int:
+    write(STREAM, text.canonical(schedule_of(asked.file)).encode(), asked.file)
+    return 0
+
+
+def do_check(asked) -> int:
+    schedule, status = schedule_of(asked.file), 0
+    lines = words.accepted(schedule, shown(asked.file))
+    for number in range(1, schedule.chain_count + 1):
+        try:
+            lines += words.check_chain(schedule, number)
+        except Refused as refused:
+            lines.append("  " + words.of_chain(schedule, number, refused))
+            status = 1
+    say(lines)
+    return status
+
+
+def do_report(asked) -> int:
+    data, out = read(asked.file)[:REPORTED], bytearray(calls.LONGEST_REPORT)
+    report = bytes(out[:calls.report(data, out)])
+    write(STREAM, report, asked.file)
+    return 1 if b"refused" in report else 0
+
+
+def do_explain(asked) -> int:
+    if asked.number not in refusals.MEANINGS:
+        raise Stop(f"no refusal has the number {asked.number:,}; they are 1 to {max(refusals.MEANINGS)}")
+    say(refusals.explanation(asked.number, asked.place))
+    return 0
+
+
+def do_delay(asked) -> int:
+    schedule = schedule_of(asked.file)
+    chain_of(schedule, asked.file, asked.chain)
+    say(on_chain(schedule, asked.chain, lambda: words.delay(schedule, asked.chain, asked.tick)))
+    return 0
+
+
+def do_age(asked) -> int:
+    schedule = schedule_of(asked.file)
+    chain_of(schedule, asked.file, asked.chain)
+    say(on_chain(schedule, asked.chain, lambda: words.age(schedule, asked.chain, asked.tick)))
+    return 0
+
+
+def do_curve(asked) -> int:
+    schedule = schedule_of(asked.file)
+    chain = chain_of(schedule, asked.file, asked.chain)
+    figures = on_chain(schedule, asked.chain, lambda: analysis.made(chain))
+    name = f"{title_of(asked.file)}, chain {asked.chain}" if schedule.chain_count > 1 else title_of(asked.file)
+    write(asked.output, curve.picture(chain, figures, name).encode(), asked.file)
+    return 0
+
+
+def do_page(asked) -> int:
+    data, name = read(asked.file), title_of(asked.file)
+    try:
+        made, refused = page.of_schedule(name, calls.read_file(data), asked.bound, asked.jobs)
+    except Refused as fault:
+        made, refused = page.refused_file(name, words.of_file(shown(asked.file), data, fault)), True
+    write(asked.output, made.encode(), asked.file)
+    return 1 if refused else 0
+
+
+def do_pair(asked) -> int:
+    schedule = schedule_of(asked.file)
+    for number in (asked.first, asked.second):
+        chain_of(schedule, asked.file, number)
+    try:
+        found = calls.bookings(schedule, asked.first, asked.second, asked.tick)
+    except Refused as refused:
+        raise Unsound(f"chains {asked.first} and {asked.second} are refused with {refused.number}: {refused.words}.") from None
+    say(words.pair(found, asked.first, asked.second, asked.tick))
+    return 0
+
+
+def do_windows(asked) -> int:
+    schedule = schedule_of(asked.file)
+    chain = chain_of(schedule, asked.file, asked.chain)
+    found = on_chain(schedule, asked.chain, lambda: calls.windows(chain, asked.bound, asked.jobs))
+    say([f"chain {asked.chain}: {words.windows(found, asked.bound, asked.jobs)}"])
+    return 0
+
+
+def title_of(path: str) -> str:
+    """What a picture calls a file: its name without folder and ending."""
+    return shown(path) if path == STREAM else os.path.splitext(os.path.basename(path))[0]
+
+
+# ---- The arguments
+
+def as_ticks(word: str) -> int:
+    try:
+        return measures.ticks(word)
+    except measures.Unclear as why:
+        raise argparse.ArgumentTypeError(f"'{word}': {why}; right would be 42000, 42,000, 42000us, 42ms or 0.042s") from None
+
+
+def as_number(word: str) -> int:
+    try:
+        return measures.whole(word)
+    except measures.Unclear as why:
+        raise argparse.ArgumentTypeError(f"'{word}': {why}") from None
+
+
+# Name, what it does, its arguments, an example.
+FILE = ("file", {"metavar": "FILE", "help": "a schedule file, or - for standard input"})
+TICK = ("tick", {"metavar": "TICK", "type": as_ticks, "help": "in ticks of 1 us, or with a unit, as 42ms"})
+CHAIN = ("chain", {"metavar": "CHAIN", "type": as_number, "nargs": "?", "default": 1, "help": "the chain's number; 1 where none is named"})
+ONE_CHAIN = ("--chain", {"metavar": "N", "type": as_number, "default": 1, "help": "the chain's number; 1 where none is named"})
+OUTPUT = {"metavar": "OUT", "required": True, "help": "the file to write, or - for standard output"}
+COMMANDS = (
+    ("write", do_write, "make a schedule file of a text, and show what stands in it", (("text", {"metavar": "TEXT", "help": "a text, or - for standard input"}), ("file", {"metavar": "FILE", "help": "the file to write, or - for standard output"})),
+     "write examples/laser.txt laser.schedule"),
+    ("text", do_text, "print a schedule file as text", (FILE,), "text examples/laser.schedule"),
+    ("check", do_check, "say what is in a schedule file, or why it is refused", (FILE,), "check examples/two-boards.schedule"),
+    ("report", do_report, "print the report of a schedule file, as the instrument's program does", (FILE,), "report examples/chain-a.schedule"),
+    ("explain", do_explain, "say what a refusal's number means", (("number", {"metavar": "N", "type": as_number}), ("place", {"metavar": "P", "type": as_number, "nargs": "?", "help": "the refusal's place"})),
+     "explain 5 18"),
+    ("delay", do_delay, "how long a press at a tick waits, and by which jobs it is booked", (FILE, TICK, CHAIN), "delay examples/laser.schedule 95ms"),
+    ("age", do_age, "how old the newest reading is that a leg at a tick is booked from, and through which jobs it came", (FILE, TICK, CHAIN), "age examples/two-boards.schedule 325000 2"),
+    ("curve", do_curve, "draw the delay of a press over one hyperperiod", (FILE, ("-o", {"dest": "output", **OUTPUT}), ONE_CHAIN), "curve examples/waters19-c1.schedule -o waters.svg"),
+    ("page", do_page, "make a page of everything", (
+        FILE, ("-o", {"dest": "output", **OUTPUT}),
+        ("--bound", {"metavar": "B", "type": as_ticks, "default": None, "help": "the delay that should not be exceeded; 95 %% of each chain's greatest where none is named"}),
+        ("--jobs", {"metavar": "K", "type": as_number, "default": 10, "help": "how many successive jobs a window has; 10 where none is named"}),
+    ), "page examples/laser-and-compass.schedule -o laser.html --bound 120ms"),
+    ("pair", do_pair, "when a press is booked by two chains", (FILE, TICK, ("first", {"metavar": "N", "type": as_number, "help": "the number of a chain"}), ("second", {"metavar": "M", "type": as_number, "help": "the number of a chain"})),
+     "pair examples/laser-and-compass.schedule 42000 1 2"),
+    ("windows", do_windows, "how many of K successive jobs take longer than B ticks from read to booking", (
+        FILE, ("bound", {"metavar": "B", "type": as_ticks, "help": "in ticks of 1 us, or with a unit"}), ("jobs", {"metavar": "K", "type": as_number, "help": "1 to 100"}), ONE_CHAIN,
+    ), "windows examples/waters19-c1.schedule 862600 10"),
+)
+
+
+def arguments() -> argparse.ArgumentParser:
+    examples = "\n".join(f"  {PROGRAM} {example}" for *_, example in COMMANDS)
+    parser = argparse.ArgumentParser(
+        prog=PROGRAM, description="Schedules of cave-survey instruments: from a text to a file, to delays, and to pictures of them. Every number comes from the proved calls.",
+        epilog=f"examples:\n{examples}\n\nThe exit status is 0; 1 where a file, a text or a chain is refused; 2 for wrong use, or where a file cannot be read or written.",
+        formatter_class=argparse.RawDescriptionHelpFormatter,
+    )
+    commands = parser.add_subparsers(dest="command", metavar="COMMAND", required=True)
+    for name, do, about, wanted, example in COMMANDS:
+        each = commands.add_parser(name, help=about, description=f"{about[0].upper()}{about[1:]}.", epilog=f"example: {PROGRAM} {example}")
+        each.set_defaults(do=do)
+        for word, how in wanted:
+            each.add_argument(word, **how)
+    return parser
+
+
+def main(given: Optional[List[str]] = None) -> int:
+    asked = arguments().parse_args(given)
+    for stream in (sys.stdout, sys.stderr):
+        # A terminal that lacks a sign shows a question mark for it.
+        stream.reconfigure(errors="replace")
+    try:
+        status = asked.do(asked)
+        sys.stdout.flush()
+        return status
+    except Unsound as why:
+        print(why, file=sys.stderr)
+        return 1
+    except (Stop, Missing, calls.Broken, analysis.Disagreement) as why:
+        print(f"{PROGRAM}: {why}", file=sys.stderr)
+        return 2
+    except OSError as fault:
+        # What was printed has not been written, as to a reader that has gone or a full disk; nothing may try it again at the end.
+        os.dup2(os.open(os.devnull, os.O_WRONLY), sys.stdout.fileno())
+        print(f"{PROGRAM}: standard output cannot be written: {fault.strerror}", file=sys.stderr)
+        return 2
+    except Exception:
+        # A fault of this program is no refusal, so its status is not 1.
+        traceback.print_exc()
+        return 2

@@ -1,0 +1,68 @@
+"""The shared object of the proved calls: where it is, how each call is declared, and how to make it where it is missing."""
+from __future__ import annotations
+
+import ctypes
+import functools
+import os
+
+TOP = os.path.dirname(os.path.dirname(os.path.dirname(os.path.abspath(__file__))))
+# The variable names another one.
+VARIABLE = "MESHORCHARD_LIBRARY"
+MADE = os.path.join(TOP, "target", "host", "libmeshorchard.so")
+
+NUMBER = ctypes.c_uint64
+SIZE = ctypes.c_size_t
+NUMBERS = ctypes.POINTER(NUMBER)
+BYTES = ctypes.POINTER(ctypes.c_char)
+
+# What the calls of include/meshorchard.h have in common: a lent table, chain, schedule.
+TABLE = (NUMBERS, SIZE, NUMBERS, SIZE, NUMBER, NUMBER)
+CHAIN = (NUMBERS, SIZE, SIZE, NUMBER)
+SCHEDULE = (NUMBERS, SIZE, SIZE, NUMBERS, SIZE, NUMBERS, SIZE, SIZE, NUMBER)
+DECLARED = {
+    "mo_read_table": (*TABLE, NUMBER),
+    "mo_greatest": (*TABLE, NUMBERS),
+    "mo_low": (*TABLE, NUMBERS),
+    "mo_mean": (*TABLE, NUMBERS, NUMBERS),
+    "mo_throughput": (*TABLE, NUMBERS, NUMBERS),
+    "mo_exceedance": (*TABLE, NUMBER, NUMBERS, NUMBERS),
+    "mo_check": (*CHAIN, NUMBERS),
+    "mo_warm_up": (*CHAIN, NUMBERS, NUMBERS, NUMBERS),
+    "mo_delay": (*CHAIN, NUMBER, NUMBERS),
+    "mo_age": (*CHAIN, NUMBER, NUMBERS),
+    "mo_make_table": (*CHAIN, SIZE, NUMBERS, SIZE, NUMBERS, SIZE, NUMBERS),
+    "mo_windows": (*CHAIN, NUMBER, NUMBER, NUMBERS, NUMBERS),
+    "mo_read_file": (BYTES, SIZE, NUMBERS, NUMBERS, NUMBERS, NUMBERS),
+    "mo_write_file": (*SCHEDULE, BYTES, SIZE, NUMBERS),
+    "mo_chain_of_schedule": (*SCHEDULE, SIZE, NUMBERS, NUMBERS),
+    "mo_bookings": (*SCHEDULE, SIZE, SIZE, NUMBER, NUMBERS),
+    "mo_report": (BYTES, SIZE, BYTES, SIZE),
+}
+
+
+class Missing(Exception):
+    """There is no shared object to load."""
+
+
+def path() -> str:
+    """Where the shared object is looked for."""
+    return os.environ.get(VARIABLE) or MADE
+
+
+@functools.lru_cache(maxsize=None)
+def load() -> ctypes.CDLL:
+    """The shared object, loaded once, with each call declared as in the header."""
+    where = path()
+    if not os.path.exists(where):
+        raise Missing(
+            f"there is no shared object of the proved calls at {where}; host/library makes it, from the archives and with gcc and the Rattle toolchain, "
+            f"and the variable {VARIABLE} names another one"
+        )
+    try:
+        found = ctypes.CDLL(where)
+        for name, arguments in DECLARED.items():
+            call = getattr(found, name)
+            call.argtypes, call.restype = arguments, NUMBER
+    except (OSError, AttributeError) as fault:
+        raise Missing(f"{where} is no shared object of these calls ({fault}); host/library makes it anew") from None
+    return found

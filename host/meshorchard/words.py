@@ -1,0 +1,121 @@
+"""What the calls say of a schedule, a chain, a press or a leg, in words for a terminal."""
+from __future__ import annotations
+
+from typing import List, Sequence
+
+from . import calls, diagnosis
+from .analysis import Job, first_leg, way_of_leg, way_of_press
+from .lent import Chain, Schedule
+from .measures import counted, said, short
+from .refusals import Refused
+
+
+def columns(rows: Sequence[Sequence[str]]) -> List[str]:
+    """Rows of cells, the cells of a column equally wide."""
+    widths = [max(map(len, cells)) for cells in zip(*rows)]
+    return ["  " + "  ".join(cell.ljust(width) for cell, width in zip(row, widths)).rstrip() for row in rows]
+
+
+def of_file(name: str, data: bytes, refused: Refused) -> str:
+    """A refused file."""
+    return f"{name} is refused with {refused.number} at {refused.place:,}: {diagnosis.explained(data, refused)}."
+
+
+def of_chain(schedule: Schedule, number: int, refused: Refused) -> str:
+    """Why an analysis of a chain of a sound schedule is refused."""
+    if refused.number == 7:
+        chain = calls.chain_of_schedule(schedule, number)
+        periods = sorted({chain.task(place)[0] for place in range(1, chain.places + 1)})
+        return f"chain {number} is refused with 7: its hyperperiod, the least common multiple of the {'period' if len(periods) == 1 else 'periods'} {listed(periods)}, is above 60,000,000 µs (60 s)."
+    if refused.number == 12:
+        chain = calls.chain_of_schedule(schedule, number)
+        return f"chain {number} is refused with 12: it has not warmed up. A press has a delay from tick {calls.warm_up(chain).tick:,} on, a leg an age from tick {first_leg(chain):,} on."
+    return f"chain {number} is refused with {refused.number}: {refused.words}."
+
+
+def listed(numbers: Sequence[int]) -> str:
+    said_numbers = [f"{number:,}" for number in numbers]
+    return said_numbers[0] if len(numbers) == 1 else f"{', '.join(said_numbers[:-1])} and {said_numbers[-1]}"
+
+
+def of_gap(gap: int) -> str:
+    return f"gap {said(gap)}: a value can be read that long after its write" if gap else "no gap: a value can be read from its write on"
+
+
+def check_chain(schedule: Schedule, number: int) -> List[str]:
+    """A chain of a sound schedule, or its refusal."""
+    tasks = schedule.chain_list()[number - 1]
+    chain = calls.chain_of_schedule(schedule, number)
+    lines = [f"  chain {number}: {'task' if len(tasks) == 1 else 'tasks'} {', then '.join(map(str, tasks))}"]
+    warm = calls.warm_up(chain)
+    lines.append(f"    hyperperiod {said(warm.hyperperiod)}: the delays repeat after it")
+    lines.append(f"    warm-up: a press has a delay from tick {warm.tick:,} on, a leg an age from tick {first_leg(chain):,} on")
+    lines.append(f"    warm-up jobs, counted from 0: {', '.join(f'{job:,}' for job in warm.jobs)}")
+    return lines
+
+
+def way(jobs: Sequence[Job], numbers: Sequence[int]) -> List[str]:
+    """The jobs of a way, place by place, in columns."""
+    rows = [(f"place {job.place}", f"task {number}", f"job {job.number:,}", f"reads at {job.read:,}", f"writes at {job.write:,}") for job, number in zip(jobs, numbers)]
+    return columns(rows)
+
+
+def delay(schedule: Schedule, number: int, t: int) -> List[str]:
+    """The delay of a press and its way."""
+    chain = calls.chain_of_schedule(schedule, number)
+    found = calls.delay(chain, t)
+    jobs = way_of_press(chain, t)
+    return [
+        f"chain {number}, press at tick {t:,}: the delay is {said(found)}",
+        *way(jobs, schedule.chain_list()[number - 1]),
+        f"  booked at tick {jobs[-1].write:,}",
+    ]
+
+
+def age(schedule: Schedule, number: int, z: int) -> List[str]:
+    """The age of what a leg is booked from, and its way."""
+    chain = calls.chain_of_schedule(schedule, number)
+    found = calls.age(chain, z)
+    jobs = way_of_leg(chain, z)
+    return [
+        f"chain {number}, leg at tick {z:,}: the newest reading is {said(found)} old",
+        *way(jobs, schedule.chain_list()[number - 1]),
+        f"  read at tick {jobs[0].read:,}",
+    ]
+
+
+def exceedance(found: calls.Exceedance, b: int) -> str:
+    """The longest run of presses with delays above a bound."""
+    if found.endless:
+        return f"every press waits longer than {short(b)}"
+    if found.run == 0:
+        return f"no press waits longer than {short(b)}"
+    return f"the longest time over which every press waits longer than {short(b)} is {short(found.run)}"
+
+
+def windows(found: calls.Windows, b: int, k: int) -> str:
+    """The jobs of the first place that miss a bound."""
+    jobs = f"of {counted(k, 'successive job')} of the first place"
+    if found.misses == 0:
+        return f"{jobs} none takes longer than {short(b)} from its read to its booking"
+    take = "takes" if found.misses == 1 else "take"
+    return f"{jobs} at most {found.misses} {take} longer than {short(b)} from read to booking; job {found.first:,} is the first with which so bad a stretch begins"
+
+
+def pair(found: calls.Bookings, first: int, second: int, t: int) -> List[str]:
+    """The bookings of a press by two chains."""
+    return [
+        f"press at tick {t:,}, chains {first} and {second}:",
+        f"  later booking    tick {found.later:,}",
+        f"  earlier booking  tick {found.earlier:,}",
+        f"  difference       {said(found.difference)}",
+        f"  greatest difference of any press  {said(found.greatest)}",
+    ]
+
+
+def accepted(schedule: Schedule, name: str) -> List[str]:
+    """A sound schedule, its tasks and its gap."""
+    tasks, chains = schedule.task_list(), schedule.chain_count
+    lines = [f"{name}: {counted(len(tasks), 'task')}, {counted(chains, 'chain')}, {of_gap(schedule.gap)}"]
+    rows = [(f"task {task.number}", f"period {task.period:,}", f"duration {task.duration:,}", f"phase {task.phase:,}") for task in tasks]
+    return lines + columns(rows)
