@@ -180,7 +180,7 @@ def do_pair(asked) -> int:
     try:
         found = calls.bookings(schedule, asked.first, asked.second, asked.tick)
     except Refused as refused:
-        raise Unsound(f"chains {asked.first} and {asked.second} are refused with {refused.number}: {refused.words}.") from None
+        raise Unsound(words.of_pair(schedule, asked.first, asked.second, refused)) from None
     say(words.pair(found, asked.first, asked.second, asked.tick))
     return 0
 

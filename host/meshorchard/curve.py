@@ -16,6 +16,8 @@ from .measures import counted
 
 # One anchor in so many pixels can still be told from the next; with more the picture is drawn in columns.
 PIXELS = 3
+# As many anchors as an instrument's report has room for are marked, with more the marks would be one band.
+MOST_MARKS = 1024
 
 
 class Frame(NamedTuple):
@@ -38,7 +40,7 @@ class Frame(NamedTuple):
 # A picture for itself, one in a page, and one in a page of a phone's width.
 ALONE = Frame(900, 420, 74, 778, 58, 362, "alone", True)
 WIDE = Frame(900, 360, 74, 778, 12, 302, "wide", False)
-NARROW = Frame(420, 320, 62, 326, 12, 262, "narrow", False)
+NARROW = Frame(420, 320, 72, 306, 12, 262, "narrow", False)
 
 
 class Span(NamedTuple):
@@ -106,7 +108,8 @@ def picture(chain: Chain, figures: Figures, name: str, frame: Frame = ALONE) -> 
 
 def close(figures: Figures) -> str:
     """What is said of a picture in columns."""
-    return f"{figures.table.anchors:,} anchors, too many to mark: each column spans its delays"
+    many = "" if figures.table.anchors <= MOST_MARKS else ", too many to mark"
+    return f"{figures.table.anchors:,} anchors{many}; each column spans the delays in it"
 
 
 def _titles(figures: Figures, name: str, frame: Frame, singly: bool) -> List[str]:
@@ -153,7 +156,6 @@ def _sawtooth(figures: Figures, across: Axis, up: Axis) -> List[str]:
     """One falling line for each anchor, a thin rise to the next, and the anchors as dots."""
     falls, rises, dots = [], [], []
     every = spans(figures)
-    radius = 4.5 if len(every) <= 60 else 2.5
     # Where there is room, a hollow dot says that the end of a fall is not reached.
     hollow = len(every) * 24 <= across.end - across.start
     for i, span in enumerate(every):
@@ -165,8 +167,16 @@ def _sawtooth(figures: Figures, across: Axis, up: Axis) -> List[str]:
         falls.append(line("hover", [begin, end], falling))
         if hollow:
             dots.append(dot("hollow paper delay-line", *end, 3.5, f"not reached: at {measures.said(span.stop)} the delay is {measures.said(following)}"))
-        dots.append(dot("delay", *begin, radius, f"anchor {i + 1} of {len(every)}: a press at {measures.said(span.start)} waits {measures.said(span.latency)}", f' data-anchor="{i + 1}"'))
-    return [*rises, *falls, *dots]
+    return [*rises, *falls, *dots, *_marks(figures, across, up, 4.5 if len(every) <= 60 else 2.5)]
+
+
+def _marks(figures: Figures, across: Axis, up: Axis, radius: float) -> List[str]:
+    """The anchors as dots."""
+    count = figures.table.anchors
+    return [
+        dot("delay", across.place(start), up.place(latency), radius, f"anchor {i + 1} of {count}: a press at {measures.said(start)} waits {measures.said(latency)}", f' data-anchor="{i + 1}"')
+        for i, (start, latency) in enumerate(zip(figures.table.starts, figures.table.latencies))
+    ]
 
 
 def _columns(chain: Chain, figures: Figures, across: Axis, up: Axis) -> List[str]:
@@ -180,4 +190,4 @@ def _columns(chain: Chain, figures: Figures, across: Axis, up: Axis) -> List[str
         )
         more = f' data-start="{each.start}" data-stop="{each.stop}" data-greatest="{each.greatest}" data-low="{each.low}"'
         parts.append(line("line column delay-line", [(x, up.place(each.greatest)), (x, up.place(each.low))], title, more))
-    return parts
+    return parts + (_marks(figures, across, up, 1.2) if figures.table.anchors <= MOST_MARKS else [])

@@ -94,10 +94,11 @@ class Axis(NamedTuple):
             step *= 10
 
     def marks(self, room: float) -> List[int]:
-        """Round numbers on the axis."""
+        """Round numbers on the axis, at least two, since one gives no scale: closer together where it must be."""
         step = self.step(room)
         first = -(-self.first // step) * step
-        return list(range(first, self.last + 1, step))
+        found = list(range(first, self.last + 1, step))
+        return found if len(found) > 1 else self.marks(room / 2)
 
     def label(self, value: int) -> str:
         return measures.in_unit(value, self.unit())

@@ -68,7 +68,7 @@ def decimal(value: Fraction, digits: int = 3) -> str:
     rounded = (2 * scaled.numerator + scaled.denominator) // (2 * scaled.denominator)
     before, after = divmod(rounded, 10**digits)
     shown = f"{before:,}.{after:0{digits}d}".rstrip("0").rstrip(".") if digits else f"{before:,}"
-    return shown if exact else f"about {shown}"
+    return shown if exact else f"≈ {shown}"
 
 
 def in_unit(value, unit: str) -> str:

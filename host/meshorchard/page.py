@@ -28,12 +28,11 @@ table{border-collapse:collapse;font-variant-numeric:tabular-nums;margin:8px 0}
 th,td{padding:4px 14px 4px 0;text-align:right;white-space:nowrap}
 th{font-weight:600;color:var(--faint);font-size:14px}
 td{border-top:1px solid var(--line)}
-.tasks{columns:2 300px;column-gap:40px}
-.tasks table{width:100%;break-inside:avoid}
+.tasks{display:flex;flex-wrap:wrap;align-items:flex-start;gap:0 48px}
 dl{display:grid;grid-template-columns:repeat(auto-fit,minmax(128px,1fr));gap:10px;margin:12px 0}
-dl div{background:var(--card);border:1px solid var(--line);border-radius:8px;padding:8px 12px}
+dl div{background:var(--card);border:1px solid var(--line);border-radius:8px;padding:8px 10px}
 dt{color:var(--faint);font-size:13px}
-dd{margin:0;font-size:19px;font-weight:600;font-variant-numeric:tabular-nums;white-space:nowrap}
+dd{margin:0;font-size:17px;font-weight:600;font-variant-numeric:tabular-nums;white-space:nowrap}
 .refused{border-left:4px solid var(--warn);background:var(--card);padding:10px 14px;border-radius:0 8px 8px 0;overflow-wrap:anywhere}
 .refused strong{color:var(--warn)}
 svg.picture{display:block;width:100%;height:auto;margin:6px 0}
@@ -44,13 +43,13 @@ dl{grid-template-columns:repeat(2,1fr);gap:8px}th,td{padding-right:10px}}
 @media print{:root{--paper:#fff;--ink:#1c2228;--faint:#5d6873;--line:#e3e7eb;--card:#fff;--warn:#b3261e}
 body{font-size:9pt;line-height:1.3}main{max-width:none;padding:0}h1{font-size:15pt;margin:0}h2{font-size:11pt;margin:4pt 0 2pt;padding-top:3pt}h3{font-size:9pt;margin:3pt 0 1pt}
 p{margin:1pt 0}table{margin:2pt 0}.faint,footer,th{font-size:8pt}th,td{padding:0 6pt 0 0}dl{display:none}footer{margin-top:4pt;padding-top:3pt}
-.tasks{display:flex;gap:8mm}.tasks table{width:auto}section{break-inside:avoid}.refused{padding:2pt 6pt}
+.tasks{flex-wrap:nowrap;gap:0 8mm}section,.refused{break-inside:avoid}.refused{padding:2pt 6pt}
 svg.picture{margin:1pt auto}svg.wide{display:block}svg.narrow{display:none}
 .chains-1 .curve svg{max-height:90mm}.chains-1 .way svg{max-height:95mm}
 .several .chains{display:grid;grid-template-columns:1fr 1fr;gap:0 7mm}.several svg.wide{display:none}.several svg.narrow{display:block}
-.several .curve svg{max-height:66mm}.several .way svg{max-height:72mm}.several .pairs{columns:2}
-.many{font-size:7.5pt;line-height:1.22}.many h2{font-size:9.5pt}.many h3{font-size:8pt;margin:1pt 0 0}.many th,.many .faint,.many footer{font-size:7pt}
-.many .curve svg{max-height:44mm}.many .way svg{max-height:35mm}}
+.several .curve svg{max-height:60mm}.several .way svg{max-height:62mm}.several .pairs{columns:2}
+.many{font-size:7pt;line-height:1.2}.many h2{font-size:8.5pt}.many h3{font-size:7.5pt;margin:1pt 0 0}.many .pictures h3{display:none}.many th,.many .faint,.many footer{font-size:7pt}
+.many .curve svg{max-height:40mm}.many .way svg{max-height:32mm}}
 """
 
 
@@ -77,7 +76,7 @@ def of_schedule(name: str, schedule: Schedule, bound: Optional[int], jobs: int) 
     refused = False
     body.append('<div class="chains">')
     for number, tasks in enumerate(schedule.chain_list(), start=1):
-        head = f"<section>\n<h2>Chain {number}: {' → '.join(f'task {task}' for task in tasks)}</h2>"
+        head = f"<section>\n<h2>Chain {number}: {'task' if len(tasks) == 1 else 'tasks'} {' → '.join(map(str, tasks))}</h2>"
         try:
             inner = _chain(calls.chain_of_schedule(schedule, number), number, tasks, bound, jobs)
         except Refused as fault:
@@ -95,12 +94,14 @@ def _lead(schedule: Schedule) -> str:
 
 
 def _tasks(schedule: Schedule) -> List[str]:
-    """The tasks in tables of at most eight rows, which stand side by side where there is room."""
-    tasks, parts = schedule.task_list(), ['<div class="tasks">']
+    """The tasks in tables of at most eight rows, as equal as they can be, which stand side by side where there is room."""
+    tasks = schedule.task_list()
     unit = unit_for(max(max(task[1:]) for task in tasks))
-    for first in range(0, len(tasks), 8):
-        parts.append("<table><tr><th>task</th>" + "".join(f"<th>{name} ({sign(unit)})</th>" for name in ("period", "duration", "phase")) + "</tr>")
-        parts += [f"<tr><td>{task.number}</td>" + "".join(f"<td>{in_unit(value, unit)}</td>" for value in task[1:]) + "</tr>" for task in tasks[first:first + 8]]
+    parts = [f'<p class="faint">The tasks, times in {sign(unit)}:</p>', '<div class="tasks">']
+    rows = -(-len(tasks) // -(-len(tasks) // 8))
+    for first in range(0, len(tasks), rows):
+        parts.append("<table><tr><th>task</th><th>period</th><th>duration</th><th>phase</th></tr>")
+        parts += [f"<tr><td>{task.number}</td>" + "".join(f"<td>{in_unit(value, unit)}</td>" for value in task[1:]) + "</tr>" for task in tasks[first:first + rows]]
         parts.append("</table>")
     return [*parts, "</div>"]
 
@@ -146,5 +147,5 @@ def _pairs(schedule: Schedule) -> List[str]:
             found = calls.bookings(schedule, first, second, t)
             parts.append(f"<p>Chains {first} and {second} book one press at most <b>{short(found.greatest)}</b> apart.</p>")
         except Refused as refused:
-            parts.append(_refusal(f"chains {first} and {second} are refused with {refused.number}: {refused.words}."))
+            parts.append(_refusal(words.of_pair(schedule, first, second, refused)))
     return [*parts, "</div>", "</section>"]

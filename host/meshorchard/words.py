@@ -33,6 +33,22 @@ def of_chain(schedule: Schedule, number: int, refused: Refused) -> str:
     return f"chain {number} is refused with {refused.number}: {refused.words}."
 
 
+def of_pair(schedule: Schedule, first: int, second: int, refused: Refused) -> str:
+    """Why two chains of a sound schedule are not put side by side."""
+    for number in (first, second):
+        try:
+            calls.warm_up(calls.chain_of_schedule(schedule, number))
+        except Refused as alone:
+            return of_chain(schedule, number, alone)
+    said_of = f"chains {first} and {second} are refused with {refused.number}"
+    if refused.number == 7:
+        return f"{said_of}: their common hyperperiod, the least common multiple of both, is above 60,000,000 µs (60 s)."
+    if refused.number == 12:
+        ticks = [calls.warm_up(calls.chain_of_schedule(schedule, number)).tick for number in (first, second)]
+        return f"{said_of}: they have not both warmed up. Chain {first} has delays from tick {ticks[0]:,} on, chain {second} from tick {ticks[1]:,} on."
+    return f"{said_of}: {refused.words}."
+
+
 def listed(numbers: Sequence[int]) -> str:
     said_numbers = [f"{number:,}" for number in numbers]
     return said_numbers[0] if len(numbers) == 1 else f"{', '.join(said_numbers[:-1])} and {said_numbers[-1]}"

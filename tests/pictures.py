@@ -1,0 +1,396 @@
+"""The curve and the page of ./meshorchard: what is drawn against the reference, and the page in a browser where one is installed.
+
+    python3 tests/pictures.py [--count FACTOR] [--seed SEED]
+
+Positions are read off the pictures as a reader would: the axes give the scale, by their marks and labels. At every pixel of a curve the delay that is drawn there is compared
+with that of the walk at the pixel's tick. The last line is 'N passed, M failed', in groups.
+"""
+import argparse
+import bisect
+import glob
+import math
+import os
+import random
+import re
+import shutil
+import subprocess
+import sys
+import tempfile
+import time
+import xml.etree.ElementTree as ElementTree
+from fractions import Fraction
+
+HERE = os.path.dirname(os.path.abspath(__file__))
+TOP = os.path.dirname(HERE)
+sys.path[:0] = [HERE, os.path.join(TOP, "reference")]
+import inputs
+import meshorchard_reference as reference
+import proved
+from meshorchard import Chain, Schedule, analysis, calls, curve, page, timeline
+
+GROUPS = []
+SVG = "{http://www.w3.org/2000/svg}"
+# Coordinates are written to a hundredth of a pixel, and read off marks that are.
+NEAR = 0.03
+
+
+class Wrong(Exception):
+    """A picture does not show what it should."""
+
+
+def group(function):
+    GROUPS.append(function)
+    return function
+
+
+def same(ours, theirs, *about):
+    if ours != theirs:
+        raise Wrong(f"{about}: {ours!r}, and not {theirs!r}")
+
+
+def near(ours, theirs, *about, slope=0):
+    """Two coordinates are the same; where a steep line is crossed, what is lost across counts as often as the line is steep."""
+    if abs(ours - theirs) > NEAR * (1 + abs(slope)):
+        raise Wrong(f"{about}: drawn at {ours}, and not at {float(theirs):.3f}")
+
+
+# ---- Reading a picture
+
+def points(path):
+    """The points of a path."""
+    return [tuple(map(float, point.split())) for point in path.get("d")[1:].split("L")]
+
+
+def of_class(root, name):
+    return [element for element in root.iter() if name in (element.get("class") or "").split()]
+
+
+def title(element):
+    return element.find(f"{SVG}title").text
+
+
+class Scale:
+    """From ticks to a coordinate, by two marks of an axis and their labels."""
+
+    def __init__(self, marks, unit):
+        ticks = {"µs": 1, "ms": 1000}[unit]
+        found = sorted({(Fraction(label.replace(",", "")) * ticks, place) for label, place in marks})
+        (first, start), (last, end) = (found[0], found[-1]) if len(found) > 1 else (found[0], found[0])
+        same(len(found) > 1, True, "two marks on an axis", marks)
+        self.first, self.start, self.each = first, start, (end - start) / float(last - first)
+        for value, place in found:
+            near(place, self(value), "a mark of an axis", value)
+
+    def __call__(self, value):
+        return self.start + float(value - self.first) * self.each
+
+
+def scales(root):
+    """The scales across and up of a curve: each grid line has its label after it."""
+    elements = list(root)
+    across, up = [], []
+    for mark, label in zip(elements, elements[1:]):
+        if mark.get("class") == "hair grid-line":
+            (x, y), (other, _) = points(mark)
+            (across if x == other else up).append((label.text, x if x == other else y))
+    units = [re.search(r"(press at|delay) \((.*)\)", text.text or "") for text in root.iter(f"{SVG}text")]
+    names = {found[1]: found[2] for found in units if found}
+    return Scale(across, names["press at"]), Scale(up, names["delay"])
+
+
+# ---- The curve
+
+def check_falls(root, tasks, gap, x0, h, across, up):
+    """A curve with its anchors drawn one by one: at every pixel the drawn height is that of the delay at the pixel's tick."""
+    falls = of_class(root, "bold")
+    starts = [int(fall.get("data-start")) for fall in falls]
+    same((starts[0], starts), (x0, sorted(starts)), "starts")
+    left, right = across(x0), across(x0 + h)
+    for pixel in range(math.floor(right) - math.ceil(left) + 1):
+        tick = min(x0 + h - 1, x0 + math.floor(h * (pixel / (right - left))))
+        (x, y), (end, low) = points(falls[bisect.bisect_right(starts, tick) - 1])
+        slope = (low - y) / (end - x)
+        _, delay = reference.delay(tasks, gap, tick)
+        near(y + slope * (across(tick) - x), up(delay), "the delay at a pixel", tasks, gap, tick, slope=slope)
+    return int(right - left)
+
+
+def least(tasks, gap, start, stop, anchors):
+    """The greatest and the least delay of the ticks from start to the one before stop: at the ends, at each anchor and before it."""
+    inside = anchors[bisect.bisect_left(anchors, start):bisect.bisect_left(anchors, stop)]
+    ticks = {start, stop - 1, *inside, *[max(start, anchor - 1) for anchor in inside]}
+    delays = [reference.delay(tasks, gap, tick)[1] for tick in ticks]
+    return max(delays), min(delays)
+
+
+def check_columns(root, tasks, gap, x0, h, across, up, anchors):
+    """A curve in columns: they follow on each other, and each spans the delays of its ticks."""
+    columns, at = of_class(root, "column"), x0
+    for column in columns:
+        start, stop = int(column.get("data-start")), int(column.get("data-stop"))
+        same(start, at, "columns in a row", tasks)
+        at = stop
+        (x, top), (_, bottom) = points(column)
+        near(x, (across(start) + across(stop)) / 2, "a column", tasks, start)
+        most, fewest = least(tasks, gap, start, stop, anchors)
+        near(top, up(most), "the greatest delay in a column", tasks, gap, start, stop)
+        # The low of a column is not reached: it is where the least delay has fallen to at the end of its tick.
+        near(bottom, up(fewest - 1), "the low of a column", tasks, gap, start, stop)
+    same(at, x0 + h, "the last column", tasks)
+    return len(columns)
+
+
+def check_curve(root, tasks, gap):
+    """Everything in one curve. How many pixels were looked at."""
+    _, _, x0, h = reference.warm_up(tasks, gap)
+    anchors = reference.anchors(tasks, gap, cut(tasks))
+    starts, latencies = [start for start, _ in anchors], [latency for _, latency in anchors]
+    across, up = scales(root)
+    table = (starts, latencies, len(starts), h)
+    area, ticks = reference.mean(*table)[1:]
+    levels = {"greatest": reference.greatest(*table)[1], "low": reference.low(*table)[1], "mean": Fraction(area, ticks)}
+    for line in root.iter(f"{SVG}path"):
+        if line.get("data-level"):
+            (_, y), (_, other) = points(line)
+            near(y, up(levels.pop(line.get("data-level"))), "a level", tasks, gap)
+            same(y, other, "a level line")
+    same(levels, {}, "levels that are not drawn", tasks)
+    marks = [mark for mark in root.iter(f"{SVG}circle") if mark.get("data-anchor")]
+    same(len(marks), len(starts) if len(starts) <= 1024 else 0, "anchors marked", tasks)
+    for mark, start, latency in zip(marks, starts, latencies):
+        near(float(mark.get("cx")), across(start), "an anchor", tasks, start)
+        near(float(mark.get("cy")), up(latency), "an anchor", tasks, start)
+        for value in (start, latency):
+            same(f" {value:,} µs" in title(mark), True, "the title of an anchor", title(mark), value)
+    if of_class(root, "column"):
+        return check_columns(root, tasks, gap, x0, h, across, up, starts)
+    return check_falls(root, tasks, gap, x0, h, across, up)
+
+
+def cut(tasks):
+    periods = [t for t, _, _ in tasks]
+    return periods.index(max(periods)) + 1
+
+
+def quick(tasks, gap):
+    """Whether the reference is quick on a chain that is accepted."""
+    if reference.check_chain(tasks, gap)[0] != "ok":
+        return False
+    periods = [t for t, _, _ in tasks]
+    return math.lcm(*periods) // max(periods) <= 6000
+
+
+def drawn(tasks, gap, frame):
+    chain = Chain.of(tasks, gap)
+    return ElementTree.fromstring(curve.picture(chain, analysis.made(chain), "a chain", frame))
+
+
+def schedules():
+    """The examples that are accepted, by name, as tasks (T, D, F) of each chain."""
+    for name in sorted(glob.glob(os.path.join(TOP, "examples", "*.schedule"))):
+        with open(name, "rb") as file:
+            _, tasks, chains, gap = reference.read_file(file.read())
+        task_of = {number: tuple(task) for number, *task in tasks}
+        yield name, [[task_of[number] for number in chain] for chain in chains], chains, gap
+
+
+@group
+def example_curves(r, factor):
+    """curves of the examples, by the command"""
+    with tempfile.TemporaryDirectory() as folder:
+        out = os.path.join(folder, "out.svg")
+        for name, chains, _, gap in schedules():
+            for number, tasks in enumerate(chains, start=1):
+                if reference.check_chain(tasks, gap)[0] != "ok":
+                    continue
+                subprocess.run([os.path.join(TOP, "meshorchard"), "curve", name, "-o", out, "--chain", str(number)], check=True)
+                root = ElementTree.parse(out).getroot()
+                same((root.get("width"), root.get("height")), ("900", "420"), "the size", name)
+                yield check_curve(root, tasks, gap)
+
+
+@group
+def random_curves(r, factor):
+    """curves of random chains, in each size of a picture"""
+    kinds = set()
+    for i in range(int(60 * factor)):
+        tasks = r.choice([inputs.chain, inputs.cut_chain, inputs.far_chain])(r)
+        tasks, gap = inputs.linked(r, tasks)
+        if quick(tasks, gap):
+            root = drawn(tasks, gap, (curve.ALONE, curve.WIDE, curve.NARROW)[i % 3])
+            kinds.add("columns" if of_class(root, "column") else "falls")
+            yield check_curve(root, tasks, gap)
+    same(kinds, {"columns", "falls"}, "kinds of curves")
+
+
+@group
+def crowded_curves(r, factor):
+    """curves of more anchors than a report holds, and of as many as a picture marks"""
+    found = set()
+    for periods in ((997, 1000), (1023, 1024), (1024, 1025), (1025, 1026), (1999, 2000), (47, 16, 9, 5, 7), (1, 1), (1,), (2, 3)):
+        tasks, gap = [(t, r.randint(1, 3 * t), r.randint(0, 50)) for t in periods], r.choice([0, 7])
+        root = drawn(tasks, gap, curve.ALONE)
+        found.add(min(len(reference.anchors(tasks, gap, cut(tasks))), 1025) > 1024)
+        yield check_curve(root, tasks, gap)
+    same(found, {True, False}, "tables of more than 1,024 anchors, and others")
+
+
+# ---- The way of a press
+
+def way(tasks, gap, press):
+    """The jobs on the way of a press, as (number, read, write), by going through the jobs of each place from the first on."""
+    jobs, after = [], press + 1
+    for t, d, f in tasks:
+        number = max(0, -(-(after - f) // t))
+        jobs.append((number, f + number * t, f + number * t + d))
+        after = jobs[-1][2] + gap
+    same(jobs[-1][2], press + reference.delay(tasks, gap, press)[1], "the way of a press and its delay", tasks, gap, press)
+    return jobs
+
+
+def check_way(root, tasks, gap, press, numbers, frame):
+    """The bars of a way. How many were looked at."""
+    elements, marks = list(root), []
+    for mark, label in zip(elements, elements[1:]):
+        if mark.get("class") == "hair grid-line":
+            marks.append((label.text, points(mark)[0][0]))
+    (unit,) = [found[1] for found in (re.search(r"time after the press \((.*)\)", text.text or "") for text in root.iter(f"{SVG}text")) if found]
+    across, bars = Scale(marks, unit), list(root.iter(f"{SVG}rect"))
+    jobs = way(tasks, gap, press)
+    for place, (number, read, write) in enumerate(jobs, start=1):
+        (bar,) = [bar for bar in bars if bar.get("data-place") == str(place) and bar.get("data-job")]
+        same([int(bar.get(f"data-{name}")) for name in ("job", "read", "write")], [number, read, write], "a job on the way", tasks, gap, press, place)
+        near(float(bar.get("x")), across(read - press), "the read of a job", tasks, press, place)
+        near(float(bar.get("width")), max(2, across(write) - across(read)), "the length of a job", tasks, press, place)
+        same(title(bar).startswith(f"place {place}, task {numbers[place - 1]}, job {number:,}: reads at {read:,} µs"), True, "the title of a job", title(bar))
+        check_others([int(bar.get("data-other")) for bar in bars if bar.get("data-place") == str(place) and bar.get("data-other")], number, tasks[place - 1], press, across, frame)
+    return len(bars)
+
+
+def check_others(drawn_jobs, number, task, press, across, frame):
+    """The other jobs of a row: all that read between its ends, or none where they are more than 80. What reads at an end may be drawn or not."""
+    t, _, f = task
+    ends = [press + float(across.first) + (edge - across.start) / across.each for edge in frame[1:3]]
+    wide = NEAR / across.each
+    seen, inner = (range(max(0, math.ceil((ends[0] - by - f) / t)), math.floor((ends[1] + by - f) / t) + 1) for by in (wide, -wide))
+    if len(inner) > 80:
+        same(drawn_jobs, [], "a crowded row", task, press)
+    elif len(seen) <= 80:
+        same(set(inner) - {number} <= set(drawn_jobs) <= set(seen) - {number}, True, "the other jobs of a row", task, press, drawn_jobs, seen)
+
+
+@group
+def ways(r, factor):
+    """ways of presses: every bar against the jobs of its place"""
+    for i in range(int(150 * factor)):
+        tasks, gap = inputs.linked(r, r.choice([inputs.chain, inputs.cut_chain])(r))
+        warm = reference.warm_up(tasks, gap)
+        if warm[0] == "ok":
+            press, frame = warm[2] + r.choice([0, r.randrange(warm[3])]), (timeline.WIDE, timeline.NARROW)[i % 2]
+            numbers = [r.randint(1, 65535) for _ in tasks]
+            yield check_way(ElementTree.fromstring(timeline.picture(Chain.of(tasks, gap), numbers, press, "a chain", frame)), tasks, gap, press, numbers, frame)
+
+
+# ---- The page
+
+def shown(ticks):
+    """A time as a page shows it: from 10,000 ticks on in milliseconds, else in microseconds, to three digits."""
+    value, unit = (Fraction(ticks, 1000), "ms") if ticks >= 10000 else (Fraction(ticks), "µs")
+    rounded = Fraction(math.floor(value * 1000 + Fraction(1, 2)), 1000)
+    text = f"{float(rounded):,.3f}".rstrip("0").rstrip(".")
+    return f"{'' if rounded == value else '≈ '}{text} {unit}"
+
+
+def check_page(text, chains, numbers, gap):
+    """A page's figures and pictures, chain by chain. How many were looked at."""
+    sections, looked = re.findall(r"<section>\n<h2>Chain .*?</section>", text, re.DOTALL), 0
+    same(len(sections), len(chains), "chains of the page")
+    for section, tasks, names in zip(sections, chains, numbers):
+        if reference.check_chain(tasks, gap)[0] != "ok":
+            same('class="refused"' in section, True, "a refused chain")
+            continue
+        _, _, x0, h = reference.warm_up(tasks, gap)
+        anchors = reference.anchors(tasks, gap, cut(tasks))
+        table = ([start for start, _ in anchors], [latency for _, latency in anchors], len(anchors), h)
+        top, area = reference.greatest(*table)[1], reference.mean(*table)[1:]
+        found = dict(re.findall(r"<dt>(.*?)</dt><dd>(.*?)</dd>", section))
+        wanted = {"greatest delay": shown(top), "mean delay": shown(Fraction(*area)), "low, not reached": shown(reference.low(*table)[1])}
+        same(found, {**wanted, "hyperperiod": shown(h), "warm-up tick": shown(x0), "anchors": f"{len(anchors):,}"}, "figures", tasks)
+        worst = next(start for start, latency in anchors if latency == top)
+        pictures = [ElementTree.fromstring(picture) for picture in re.findall(r"<svg.*?</svg>", section, re.DOTALL)]
+        looked += check_curve(pictures[0], tasks, gap) + check_curve(pictures[1], tasks, gap)
+        looked += check_way(pictures[2], tasks, gap, worst, names, timeline.WIDE) + check_way(pictures[3], tasks, gap, worst, names, timeline.NARROW)
+        looked += check_bounds(section, tasks, gap, table, top * 95 // 100)
+    return looked + check_pairs(text, chains, gap)
+
+
+def check_bounds(section, tasks, gap, table, bound):
+    """The longest exceedance and the windows of a bound, as the page words them."""
+    run, (misses, first) = reference.exceedance(*table, bound)[1], reference.windows(tasks, gap, bound, 10)[1:]
+    wanted = f"No press waits longer than {shown(bound)}." if run == 0 else f"Every press waits longer than {shown(bound)}."
+    if run not in (0, "endless"):
+        wanted = f"The longest time over which every press waits longer than {shown(bound)} is {shown(run)}."
+    same(wanted in section, True, "the longest exceedance", wanted)
+    wanted = f"at most {misses} take{'s' if misses == 1 else ''} longer" if misses else "none takes longer"
+    same(wanted in section and (not misses or f"job {first:,} is the first" in section), True, "windows", wanted, first)
+    return 2
+
+
+def check_pairs(text, chains, gap):
+    """The greatest difference of every two chains."""
+    looked = 0
+    for i, one in enumerate(chains):
+        for j, two in enumerate(chains[:i]):
+            found = re.search(f"(Chains {j + 1} and {i + 1} (?:book|are)|chain ({i + 1}|{j + 1}) is refused)[^\n]*", text, re.IGNORECASE)
+            same(bool(found), True, "two chains of the page", j + 1, i + 1)
+            warm = [reference.warm_up(chain, gap) for chain in (one, two)]
+            if "refused" in (warm[0][0], warm[1][0]) or math.lcm(warm[0][3], warm[1][3]) > inputs.MOST_HYPER:
+                continue
+            greatest = reference.bookings(two, gap, one, gap, max(warm[0][2], warm[1][2]))[4]
+            same(f"at most <b>{shown(greatest)}</b> apart" in found[0], True, "the greatest difference", found[0], greatest)
+            looked += 1
+    return looked
+
+
+@group
+def pages(r, factor):
+    """pages of the examples and of random schedules: figures, curves, ways, bounds, chains side by side"""
+    for name, chains, numbers, gap in schedules():
+        with open(name, "rb") as file:
+            text, refused = page.of_schedule("a page", calls.read_file(file.read()), None, 10)
+        same(refused, any(reference.check_chain(tasks, gap)[0] != "ok" for tasks in chains), "a refused chain", name)
+        yield check_page(text, chains, numbers, gap)
+    for _ in range(int(12 * factor)):
+        chains = [inputs.cut_chain(r)[:8] for _ in range(r.randint(1, 4))]
+        gap = inputs.some_gap(r, *chains)
+        tasks, numbers = inputs.numbered(r, chains)
+        text, _ = page.of_schedule("a page", Schedule.of(tasks, numbers, gap), None, 10)
+        yield check_page(text, chains, numbers, gap)
+
+
+def main():
+    parser = argparse.ArgumentParser()
+    parser.add_argument("--count", type=float, default=1.0, help="how much longer than usual")
+    parser.add_argument("--seed", type=int, default=20261116)
+    chosen = parser.parse_args()
+    proved.build()
+    print(f"pictures against the reference, seed {chosen.seed}, count {chosen.count}")
+    passed = failed = 0
+    for run in GROUPS:
+        began, made, looked, fault = time.time(), 0, 0, ""
+        try:
+            for found in run(random.Random(f"{chosen.seed} {run.__name__}"), chosen.count):
+                made, looked = made + 1, looked + found
+        except Wrong as wrong:
+            fault = f"; {wrong}"
+        print(f"{run.__doc__.strip()}: {made} pictures, {looked} places looked at{fault} ({time.time() - began:.1f} s)")
+        if fault or looked == 0:
+            failed += 1
+        else:
+            passed += 1
+    print(f"{passed} passed, {failed} failed")
+    sys.exit(0 if failed == 0 else 1)
+
+
+if __name__ == "__main__":
+    main()
