@@ -180,6 +180,11 @@ def quick(tasks, gap):
     return math.lcm(*periods) // max(periods) <= 6000
 
 
+def bytes_of(path):
+    with open(path, "rb") as file:
+        return file.read()
+
+
 def drawn(tasks, gap, frame):
     chain = Chain.of(tasks, gap)
     return ElementTree.fromstring(curve.picture(chain, analysis.made(chain), "a chain", frame))
@@ -207,6 +212,24 @@ def example_curves(r, factor):
                 root = ElementTree.parse(out).getroot()
                 same((root.get("width"), root.get("height")), ("900", "420"), "the size", name)
                 yield check_curve(root, tasks, gap)
+
+
+@group
+def documents(r, factor):
+    """the pictures in docs/, which are those that the command draws now, and the examples' files and reports, which are those of their texts"""
+    with tempfile.TemporaryDirectory() as folder:
+        out, command = os.path.join(folder, "out"), os.path.join(TOP, "meshorchard")
+        for picture in sorted(glob.glob(os.path.join(TOP, "docs", "*.svg"))):
+            name = os.path.join(TOP, "examples", os.path.basename(picture)[:-4])
+            subprocess.run([command, "curve", name + ".schedule", "-o", out], check=True)
+            same(bytes_of(out) == bytes_of(picture), True, "a picture of docs/", picture)
+            yield 1
+        for text in sorted(glob.glob(os.path.join(TOP, "examples", "*.txt"))):
+            subprocess.run([command, "write", text, out], check=True, stdout=subprocess.DEVNULL)
+            same(bytes_of(out), bytes_of(text[:-4] + ".schedule"), "the file of a text", text)
+            report = subprocess.run([command, "report", out], stdout=subprocess.PIPE).stdout
+            same(report, bytes_of(text[:-4] + ".report"), "the report of a text", text)
+            yield 1
 
 
 @group

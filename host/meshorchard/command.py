@@ -168,7 +168,7 @@ def do_page(asked) -> int:
     try:
         made, refused = page.of_schedule(name, calls.read_file(data), asked.bound, asked.jobs)
     except Refused as fault:
-        made, refused = page.refused_file(name, words.of_file(shown(asked.file), data, fault)), True
+        made, refused = page.of_refused(name, words.of_file("the file", data, fault)), True
     write(asked.output, made.encode(), asked.file)
     return 1 if refused else 0
 
@@ -248,12 +248,15 @@ def arguments() -> argparse.ArgumentParser:
     examples = "\n".join(f"  {PROGRAM} {example}" for *_, example in COMMANDS)
     parser = argparse.ArgumentParser(
         prog=PROGRAM, description="Schedules of cave-survey instruments: from a text to a file, to delays, and to pictures of them. Every number comes from the proved calls.",
-        epilog=f"examples:\n{examples}\n\nThe exit status is 0; 1 where a file, a text or a chain is refused; 2 for wrong use, or where a file cannot be read or written.",
+        epilog=f"examples:\n{examples}\n\nThe exit status is 0; 1 where something is refused; 2 for wrong use, or where a file cannot be read or written.",
         formatter_class=argparse.RawDescriptionHelpFormatter,
     )
     commands = parser.add_subparsers(dest="command", metavar="COMMAND", required=True)
     for name, do, about, wanted, example in COMMANDS:
-        each = commands.add_parser(name, help=about, description=f"{about[0].upper()}{about[1:]}.", epilog=f"example: {PROGRAM} {example}")
+        form = f"a text:\n{text.EXAMPLE}\n\n" if name == "write" else ""
+        each = commands.add_parser(
+            name, help=about, description=f"{about[0].upper()}{about[1:]}.", epilog=f"{form}example:\n  {PROGRAM} {example}", formatter_class=argparse.RawDescriptionHelpFormatter,
+        )
         each.set_defaults(do=do)
         for word, how in wanted:
             each.add_argument(word, **how)

@@ -115,8 +115,8 @@ def close(figures: Figures) -> str:
 def _titles(figures: Figures, name: str, frame: Frame, singly: bool) -> List[str]:
     if not frame.titled:
         return []
-    anchors = counted(figures.table.anchors, "anchor") if singly else close(figures)
-    below = f"one hyperperiod of {measures.short(figures.hyperperiod)} from the warm-up tick, {anchors}"
+    anchors = f"from the warm-up tick, {counted(figures.table.anchors, 'anchor')}" if singly else close(figures)
+    below = f"one hyperperiod of {measures.short(figures.hyperperiod)}, {anchors}"
     return [text(frame.left, 26, f"{name}: delay of a press", "ink title"), text(frame.left, 45, below, "faint")]
 
 

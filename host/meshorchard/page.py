@@ -3,7 +3,7 @@ from __future__ import annotations
 
 import itertools
 from html import escape
-from typing import List, Optional, Sequence
+from typing import Optional, Sequence, Tuple
 
 from . import calls, curve, drawing, timeline, words
 from .analysis import Figures, made
@@ -29,123 +29,142 @@ th,td{padding:4px 14px 4px 0;text-align:right;white-space:nowrap}
 th{font-weight:600;color:var(--faint);font-size:14px}
 td{border-top:1px solid var(--line)}
 .tasks{display:flex;flex-wrap:wrap;align-items:flex-start;gap:0 48px}
-dl{display:grid;grid-template-columns:repeat(auto-fit,minmax(128px,1fr));gap:10px;margin:12px 0}
+dl{display:grid;grid-template-columns:repeat(3,1fr);gap:10px;margin:12px 0}
 dl div{background:var(--card);border:1px solid var(--line);border-radius:8px;padding:8px 10px}
 dt{color:var(--faint);font-size:13px}
-dd{margin:0;font-size:17px;font-weight:600;font-variant-numeric:tabular-nums;white-space:nowrap}
+dd{margin:0;font-size:18px;font-weight:600;font-variant-numeric:tabular-nums;white-space:nowrap}
 .refused{border-left:4px solid var(--warn);background:var(--card);padding:10px 14px;border-radius:0 8px 8px 0;overflow-wrap:anywhere}
 .refused strong{color:var(--warn)}
 svg.picture{display:block;width:100%;height:auto;margin:6px 0}
 svg.narrow{display:none}
 @media (max-width:640px){body{font-size:15px}main{padding:16px 14px 28px}h1{font-size:23px}h2{margin-top:28px}svg.wide{display:none}svg.narrow{display:block}
-dl{grid-template-columns:repeat(2,1fr);gap:8px}th,td{padding-right:10px}}
+dl{grid-template-columns:repeat(2,1fr);gap:8px}dd{font-size:17px}th,td{padding-right:10px}}
 @page{size:A4;margin:10mm}
 @media print{:root{--paper:#fff;--ink:#1c2228;--faint:#5d6873;--line:#e3e7eb;--card:#fff;--warn:#b3261e}
 body{font-size:9pt;line-height:1.3}main{max-width:none;padding:0}h1{font-size:15pt;margin:0}h2{font-size:11pt;margin:4pt 0 2pt;padding-top:3pt}h3{font-size:9pt;margin:3pt 0 1pt}
 p{margin:1pt 0}table{margin:2pt 0}.faint,footer,th{font-size:8pt}th,td{padding:0 6pt 0 0}dl{display:none}footer{margin-top:4pt;padding-top:3pt}
-.tasks{flex-wrap:nowrap;gap:0 8mm}section,.refused{break-inside:avoid}.refused{padding:2pt 6pt}
+.tasks{flex-wrap:nowrap;gap:0 8mm}section,.refused{break-inside:avoid}.refused{padding:0 5pt;border-left-width:2pt}
 svg.picture{margin:1pt auto}svg.wide{display:block}svg.narrow{display:none}
 .chains-1 .curve svg{max-height:90mm}.chains-1 .way svg{max-height:95mm}
 .several .chains{display:grid;grid-template-columns:1fr 1fr;gap:0 7mm}.several svg.wide{display:none}.several svg.narrow{display:block}
 .several .curve svg{max-height:60mm}.several .way svg{max-height:62mm}.several .pairs{columns:2}
 .many{font-size:7pt;line-height:1.2}.many h2{font-size:8.5pt}.many h3{font-size:7.5pt;margin:1pt 0 0}.many .pictures h3{display:none}.many th,.many .faint,.many footer{font-size:7pt}
-.many .curve svg{max-height:40mm}.many .way svg{max-height:32mm}}
+.many .curve svg{max-height:40mm}.many .way svg{max-height:30mm}}
 """
 
 
-def page(name: str, body: Sequence[str], chains: int) -> str:
-    """A page of so many chains: on paper several stand side by side, and more than two are smaller."""
-    kind = "chains-1" if chains < 2 else "several" if chains == 2 else "several many"
-    head = f'<!doctype html>\n<html lang="en">\n<head>\n<meta charset="utf-8">\n<meta name="viewport" content="width=device-width, initial-scale=1">\n<title>{escape(name)}: delays</title>'
-    foot = "<footer>Every number on this page was given by the proved calls of Meshorchard. 1 tick is 1 µs.</footer>"
-    return "\n".join([head, f"<style>{STYLE}{drawing.rules('.picture')}</style>", f'</head>\n<body>\n<main class="{kind}">', *body, foot, "</main>\n</body>\n</html>"]) + "\n"
+class Page:
+    """A page that is being made: its parts, and whether something on it is refused."""
+
+    def __init__(self, name: str):
+        self.name = name
+        self.parts = [f"<h1>{escape(name)}</h1>"]
+        self.refused = False
+
+    def add(self, *parts: str) -> None:
+        self.parts += parts
+
+    def say(self, sentence: str) -> None:
+        self.add(f"<p>{escape(sentence[0].upper() + sentence[1:])}</p>")
+
+    def refuse(self, sentence: str) -> None:
+        self.add(f'<p class="refused"><strong>Refused.</strong> {escape(sentence[0].upper() + sentence[1:])}</p>')
+        self.refused = True
+
+    def text(self, chains: int) -> str:
+        """The whole page, of so many chains: on paper several stand side by side, and more than two are smaller."""
+        kind = "chains-1" if chains < 2 else "several" if chains == 2 else "several many"
+        head = '<!doctype html>\n<html lang="en">\n<head>\n<meta charset="utf-8">\n<meta name="viewport" content="width=device-width, initial-scale=1">'
+        style = f"<title>{escape(self.name)}: delays</title>\n<style>{STYLE}{drawing.rules('.picture')}</style>"
+        foot = "<footer>The figures, curves and ways on this page come from the proved calls of Meshorchard. 1 tick is 1 µs.</footer>"
+        return "\n".join([head, style, f'</head>\n<body>\n<main class="{kind}">', *self.parts, foot, "</main>\n</body>\n</html>"]) + "\n"
 
 
-def refused_file(name: str, sentence: str) -> str:
+def of_refused(name: str, sentence: str) -> str:
     """The page of a file that is no schedule."""
-    return page(name, [f"<h1>{escape(name)}</h1>", _refusal(sentence)], 0)
+    page = Page(name)
+    page.refuse(sentence)
+    return page.text(0)
 
 
-def _refusal(sentence: str) -> str:
-    return f'<p class="refused"><strong>Refused.</strong> {escape(sentence[0].upper() + sentence[1:])}</p>'
-
-
-def of_schedule(name: str, schedule: Schedule, bound: Optional[int], jobs: int) -> tuple:
-    """The page of a schedule, and whether a chain of it is refused. Without a bound each chain has one of its own."""
-    body = [f"<h1>{escape(name)}</h1>", _lead(schedule), *_tasks(schedule)]
-    refused = False
-    body.append('<div class="chains">')
+def of_schedule(name: str, schedule: Schedule, bound: Optional[int], jobs: int) -> Tuple[str, bool]:
+    """The page of a schedule, and whether something on it is refused. Without a bound each chain has one of its own."""
+    page = Page(name)
+    page.add(f'<p class="faint">{counted(schedule.count, "task")}, {counted(schedule.chain_count, "chain")}, {escape(words.of_gap(schedule.gap))}.</p>')
+    _tasks(page, schedule)
+    page.add('<div class="chains">')
     for number, tasks in enumerate(schedule.chain_list(), start=1):
-        head = f"<section>\n<h2>Chain {number}: {'task' if len(tasks) == 1 else 'tasks'} {' → '.join(map(str, tasks))}</h2>"
+        page.add(f"<section>\n<h2>Chain {number}: {'task' if len(tasks) == 1 else 'tasks'} {' → '.join(map(str, tasks))}</h2>")
         try:
-            inner = _chain(calls.chain_of_schedule(schedule, number), number, tasks, bound, jobs)
-        except Refused as fault:
-            refused, inner = True, [_refusal(words.of_chain(schedule, number, fault))]
-        body += [head, *inner, "</section>"]
-    body.append("</div>")
+            _chain(page, calls.chain_of_schedule(schedule, number), number, tasks, bound, jobs)
+        except Refused as refused:
+            page.refuse(words.of_chain(schedule, number, refused))
+        page.add("</section>")
+    page.add("</div>")
     if schedule.chain_count > 1:
-        body += _pairs(schedule)
-    return page(name, body, schedule.chain_count), refused
+        _pairs(page, schedule)
+    return page.text(schedule.chain_count), page.refused
 
 
-def _lead(schedule: Schedule) -> str:
-    gap = words.of_gap(schedule.gap)
-    return f'<p class="faint">{counted(schedule.count, "task")}, {counted(schedule.chain_count, "chain")}, {escape(gap)}.</p>'
-
-
-def _tasks(schedule: Schedule) -> List[str]:
+def _tasks(page: Page, schedule: Schedule) -> None:
     """The tasks in tables of at most eight rows, as equal as they can be, which stand side by side where there is room."""
     tasks = schedule.task_list()
     unit = unit_for(max(max(task[1:]) for task in tasks))
-    parts = [f'<p class="faint">The tasks, times in {sign(unit)}:</p>', '<div class="tasks">']
+    page.add(f'<p class="faint">The tasks, times in {sign(unit)}:</p>', '<div class="tasks">')
     rows = -(-len(tasks) // -(-len(tasks) // 8))
     for first in range(0, len(tasks), rows):
-        parts.append("<table><tr><th>task</th><th>period</th><th>duration</th><th>phase</th></tr>")
-        parts += [f"<tr><td>{task.number}</td>" + "".join(f"<td>{in_unit(value, unit)}</td>" for value in task[1:]) + "</tr>" for task in tasks[first:first + rows]]
-        parts.append("</table>")
-    return [*parts, "</div>"]
+        page.add("<table><tr><th>task</th><th>period</th><th>duration</th><th>phase</th></tr>")
+        page.add(*[f"<tr><td>{task.number}</td>" + "".join(f"<td>{in_unit(value, unit)}</td>" for value in task[1:]) + "</tr>" for task in tasks[first:first + rows]])
+        page.add("</table>")
+    page.add("</div>")
 
 
-def _chain(chain: Chain, number: int, tasks: Sequence[int], bound: Optional[int], jobs: int) -> List[str]:
-    figures, name = made(chain), f"chain {number}"
-    sentence = (
-        f"A press waits at most <b>{short(figures.greatest)}</b> until it is booked, always longer than <b>{short(figures.low)}</b>, and <b>{short(figures.mean)}</b> on average. "
-        f"The delays repeat every {short(figures.hyperperiod)}; the first press that has one is at {short(figures.warm)}. The table of all of them has {counted(figures.table.anchors, 'anchor')}."
+def _chain(page: Page, chain: Chain, number: int, tasks: Sequence[int], bound: Optional[int], jobs: int) -> None:
+    figures = made(chain)
+    _figures(page, figures)
+    page.add('<div class="pictures">', '<div class="curve">', "<h3>Delay of a press over one hyperperiod</h3>")
+    if not curve.WIDE.singly(figures.table.anchors):
+        page.add(f'<p class="faint">{curve.close(figures)}.</p>')
+    page.add(*[curve.picture(chain, figures, f"chain {number}", frame) for frame in (curve.WIDE, curve.NARROW)])
+    page.add("</div>", '<div class="way">', f"<h3>The way of the worst press, at {short(figures.worst)}</h3>")
+    page.add(*[timeline.picture(chain, tasks, figures.worst, f"chain {number}", frame) for frame in (timeline.WIDE, timeline.NARROW)])
+    page.add("</div>", "</div>")
+    _bounds(page, chain, figures, bound, jobs)
+
+
+def _figures(page: Page, figures: Figures) -> None:
+    """The figures of a chain, in words and one by one."""
+    anchors = counted(figures.table.anchors, "anchor")
+    page.add(
+        f"<p>A press waits at most <b>{short(figures.greatest)}</b> until it is booked, always longer than <b>{short(figures.low)}</b>, and <b>{short(figures.mean)}</b> on average. "
+        f"The delays repeat every {short(figures.hyperperiod)}; the first press that has one is at {short(figures.warm)}. The table of all of them has {anchors}.</p>"
     )
     cells = [
         ("greatest delay", short(figures.greatest)), ("mean delay", short(figures.mean)), ("low, not reached", short(figures.low)),
         ("hyperperiod", short(figures.hyperperiod)), ("warm-up tick", short(figures.warm)), ("anchors", f"{figures.table.anchors:,}"),
     ]
-    parts = [f"<p>{sentence}</p>", "<dl>", *[f"<div><dt>{title}</dt><dd>{value}</dd></div>" for title, value in cells], "</dl>"]
-    singly = curve.WIDE.singly(figures.table.anchors)
-    parts += ['<div class="pictures">', '<div class="curve">', "<h3>Delay of a press over one hyperperiod</h3>"]
-    parts += [] if singly else [f'<p class="faint">{curve.close(figures)}.</p>']
-    parts += [curve.picture(chain, figures, name, frame) for frame in (curve.WIDE, curve.NARROW)]
-    parts += ["</div>", '<div class="way">', f"<h3>The way of the worst press, at {short(figures.worst)}</h3>"]
-    parts += [timeline.picture(chain, tasks, figures.worst, name, frame) for frame in (timeline.WIDE, timeline.NARROW)]
-    return [*parts, "</div>", "</div>", *_bounds(chain, figures, bound, jobs)]
+    page.add("<dl>", *[f"<div><dt>{title}</dt><dd>{value}</dd></div>" for title, value in cells], "</dl>")
 
 
-def _bounds(chain: Chain, figures: Figures, bound: Optional[int], jobs: int) -> List[str]:
+def _bounds(page: Page, chain: Chain, figures: Figures, bound: Optional[int], jobs: int) -> None:
     """The longest exceedance and the windows of a bound: the one asked for, or 95 % of the greatest delay, rounded down, as published case studies have it."""
     b = figures.greatest * 95 // 100 if bound is None else bound
-    chosen = "a bound of 95 % of the greatest delay" if bound is None else "the chosen bound"
-    lines = [words.exceedance(calls.exceedance(figures.table, b), b)]
+    chosen = "a bound of 95 % of the greatest delay, rounded down" if bound is None else "the chosen bound"
+    page.add(f"<h3>Against {chosen}: {short(b)}</h3>")
+    page.say(words.exceedance(calls.exceedance(figures.table, b), b) + ".")
     try:
-        lines.append(words.windows(calls.windows(chain, b, jobs), b, jobs))
+        page.say(words.windows(calls.windows(chain, b, jobs), b, jobs) + ".")
     except Refused as refused:
-        lines.append(f"windows are refused with {refused.number}: {refused.words}")
-    return [f"<h3>Against {chosen}, {short(b)}</h3>", *[f"<p>{escape(each[0].upper() + each[1:])}.</p>" for each in lines]]
+        page.refuse(f"a window of {jobs:,} jobs is refused with {refused.number}: {refused.words}.")
 
 
-def _pairs(schedule: Schedule) -> List[str]:
+def _pairs(page: Page, schedule: Schedule) -> None:
     """Every two chains side by side."""
-    parts = ["<section>", "<h2>Chains side by side</h2>", '<div class="pairs">']
+    page.add("<section>", "<h2>Chains side by side</h2>", '<div class="pairs">')
     for first, second in itertools.combinations(range(1, schedule.chain_count + 1), 2):
         try:
             t = max(calls.warm_up(calls.chain_of_schedule(schedule, number)).tick for number in (first, second))
-            found = calls.bookings(schedule, first, second, t)
-            parts.append(f"<p>Chains {first} and {second} book one press at most <b>{short(found.greatest)}</b> apart.</p>")
+            page.add(f"<p>Chains {first} and {second} book one press at most <b>{short(calls.bookings(schedule, first, second, t).greatest)}</b> apart.</p>")
         except Refused as refused:
-            parts.append(_refusal(words.of_pair(schedule, first, second, refused)))
-    return [*parts, "</div>", "</section>"]
+            page.refuse(words.of_pair(schedule, first, second, refused))
+    page.add("</div>", "</section>")

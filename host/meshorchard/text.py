@@ -1,16 +1,5 @@
-"""The text form of a schedule, for people.
-
-    # A sample every 4 ms, taken over by a filter every 6 ms.
-    task 7 period 4ms duration 4ms phase 0
-    task 9 period 6_000 duration 6,000 phase 0
-    chain 7 9
-    gap 10
-
-First the tasks, their numbers rising, then one to four chains, each with the numbers of its tasks in their order, then the gap where there is one: the order of the
-file. Times are in ticks of 1 us, or have a unit, us, ms or s, at the number or after it. `#` begins a comment.
-
-Words and their turn are judged here; values, counts and the numbers in chains by the proved writer, line by line.
-"""
+"""The text form of a schedule, for people: EXAMPLE shows it. Words and their turn are judged here; values, counts and the numbers in chains by the proved writer, line
+by line."""
 from __future__ import annotations
 
 import re
@@ -19,6 +8,15 @@ from typing import List, Optional
 from . import limits, measures
 from .lent import Schedule, Task
 
+EXAMPLE = """
+  # A sample every 4 ms, taken over by a filter every 6 ms.
+  task 7 period 4ms duration 4ms phase 0
+  task 9 period 6,000 duration 6_000 phase 0.5 ms
+  chain 7 9
+  gap 10
+
+First the tasks, their numbers rising; then one to four chains, each with the numbers of its tasks in the order of their places; then the gap, if
+there is one: how long after its write a value can be read. Times are in ticks of 1 us, or have a unit: us, ms or s. A # begins a comment.""".strip("\n")
 AS_TASK = "task 7 period 4000 duration 4000 phase 0"
 AS_CHAIN = "chain 7 9 9"
 AS_GAP = "gap 10"

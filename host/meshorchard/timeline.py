@@ -10,8 +10,8 @@ from .lent import Chain
 
 TOP = 34
 # The width of a picture, and where its rows begin and end: in a page, and in one of a phone's width.
-WIDE = (900, 96, 872, "wide")
-NARROW = (420, 86, 408, "narrow")
+WIDE = (900, 96, 866, "wide")
+NARROW = (420, 86, 394, "narrow")
 # A row with more jobs shows those on the way alone.
 MOST_JOBS = 80
 
@@ -94,6 +94,6 @@ def _ends(press: int, booked: int, across: Axis, bottom: float) -> List[str]:
     return [
         line("line greatest-line", [(first, TOP - 8), (first, bottom)], f"press at {measures.said(press)}"),
         line("line greatest-line", [(last, TOP - 8), (last, bottom)], f"booked at {measures.said(booked)}"),
-        text(first, TOP - 14, f"press at {measures.short(press)}", "greatest", "start"),
+        text(first, TOP - 14, "press", "greatest", "start"),
         text(last, TOP - 14, f"booked {measures.short(booked - press)} later", "greatest", "end"),
     ]

@@ -42,7 +42,7 @@ def of_pair(schedule: Schedule, first: int, second: int, refused: Refused) -> st
             return of_chain(schedule, number, alone)
     said_of = f"chains {first} and {second} are refused with {refused.number}"
     if refused.number == 7:
-        return f"{said_of}: their common hyperperiod, the least common multiple of both, is above 60,000,000 µs (60 s)."
+        return f"{said_of}: their common hyperperiod is above 60,000,000 µs (60 s)."
     if refused.number == 12:
         ticks = [calls.warm_up(calls.chain_of_schedule(schedule, number)).tick for number in (first, second)]
         return f"{said_of}: they have not both warmed up. Chain {first} has delays from tick {ticks[0]:,} on, chain {second} from tick {ticks[1]:,} on."
