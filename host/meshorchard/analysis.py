@@ -96,9 +96,19 @@ def cut_of(chain: Chain) -> int:
     return periods.index(max(periods)) + 1
 
 
-def made(chain: Chain, slots: int = SLOTS) -> Figures:
+def slots(count: int) -> array:
+    """A list of so many entries."""
+    return array("Q", bytes(8 * count))
+
+
+def slots_table(chain: Chain) -> calls.Making:
+    """What making says with as many slots as the instrument's report has."""
+    return calls.make_table(chain, cut_of(chain), slots(SLOTS), slots(SLOTS))
+
+
+def made(chain: Chain, count: int = SLOTS) -> Figures:
     """The table of a chain and its figures. Where the table has more anchors than slots, it is made again with as many as it has."""
-    starts, latencies = array("Q", bytes(8 * slots)), array("Q", bytes(8 * slots))
+    starts, latencies = slots(count), slots(count)
     try:
         making = calls.make_table(chain, cut_of(chain), starts, latencies)
     except Refused as refused:

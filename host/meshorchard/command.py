@@ -117,11 +117,9 @@ def do_check(asked) -> int:
     schedule, status = schedule_of(asked.file), 0
     lines = words.accepted(schedule, shown(asked.file))
     for number in range(1, schedule.chain_count + 1):
-        try:
-            lines += words.check_chain(schedule, number)
-        except Refused as refused:
-            lines.append("  " + words.of_chain(schedule, number, refused))
-            status = 1
+        said, refused = words.check_chain(schedule, number)
+        lines += said
+        status = 1 if refused else status
     say(lines)
     return status
 

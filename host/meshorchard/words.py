@@ -1,10 +1,10 @@
 """What the calls say of a schedule, a chain, a press or a leg, in words for a terminal."""
 from __future__ import annotations
 
-from typing import List, Sequence
+from typing import List, Sequence, Tuple
 
 from . import calls, diagnosis
-from .analysis import Job, first_leg, way_of_leg, way_of_press
+from .analysis import Job, first_leg, slots_table, way_of_leg, way_of_press
 from .lent import Chain, Schedule
 from .measures import counted, said, short
 from .refusals import Refused
@@ -30,6 +30,8 @@ def of_chain(schedule: Schedule, number: int, refused: Refused) -> str:
     if refused.number == 12:
         chain = calls.chain_of_schedule(schedule, number)
         return f"chain {number} is refused with 12: it has not warmed up. A press has a delay from tick {calls.warm_up(chain).tick:,} on, a leg an age from tick {first_leg(chain):,} on."
+    if refused.number == 11:
+        return f"chain {number} is refused with 11 in a report: its table has {refused.made.anchors:,} anchors, and a report has room for 1,024."
     return f"chain {number} is refused with {refused.number}: {refused.words}."
 
 
@@ -58,16 +60,20 @@ def of_gap(gap: int) -> str:
     return f"gap {said(gap)}: a value can be read that long after its write" if gap else "no gap: a value can be read from its write on"
 
 
-def check_chain(schedule: Schedule, number: int) -> List[str]:
-    """A chain of a sound schedule, or its refusal."""
+def check_chain(schedule: Schedule, number: int) -> Tuple[List[str], bool]:
+    """A chain of a sound schedule, and whether the instrument's report refuses it."""
     tasks = schedule.chain_list()[number - 1]
     chain = calls.chain_of_schedule(schedule, number)
     lines = [f"  chain {number}: {'task' if len(tasks) == 1 else 'tasks'} {', then '.join(map(str, tasks))}"]
-    warm = calls.warm_up(chain)
-    lines.append(f"    hyperperiod {said(warm.hyperperiod)}: the delays repeat after it")
-    lines.append(f"    warm-up: a press has a delay from tick {warm.tick:,} on, a leg an age from tick {first_leg(chain):,} on")
-    lines.append(f"    warm-up jobs, counted from 0: {', '.join(f'{job:,}' for job in warm.jobs)}")
-    return lines
+    try:
+        warm = calls.warm_up(chain)
+        lines.append(f"    hyperperiod {said(warm.hyperperiod)}: the delays repeat after it")
+        lines.append(f"    warm-up: a press has a delay from tick {warm.tick:,} on, a leg an age from tick {first_leg(chain):,} on")
+        lines.append(f"    warm-up jobs, counted from 0: {', '.join(f'{job:,}' for job in warm.jobs)}")
+        lines.append(f"    table: {counted(slots_table(chain).anchors, 'anchor')}")
+    except Refused as refused:
+        return [*lines, "    " + of_chain(schedule, number, refused)], True
+    return lines, False
 
 
 def way(jobs: Sequence[Job], numbers: Sequence[int]) -> List[str]:
@@ -132,6 +138,6 @@ def pair(found: calls.Bookings, first: int, second: int, t: int) -> List[str]:
 def accepted(schedule: Schedule, name: str) -> List[str]:
     """A sound schedule, its tasks and its gap."""
     tasks, chains = schedule.task_list(), schedule.chain_count
-    lines = [f"{name}: {counted(len(tasks), 'task')}, {counted(chains, 'chain')}, {of_gap(schedule.gap)}"]
+    lines = [f"{name}: {counted(len(tasks), 'task')}, {counted(chains, 'chain')}, {of_gap(schedule.gap)}; times in ticks of 1 µs"]
     rows = [(f"task {task.number}", f"period {task.period:,}", f"duration {task.duration:,}", f"phase {task.phase:,}") for task in tasks]
     return lines + columns(rows)
