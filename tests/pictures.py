@@ -380,15 +380,14 @@ def pages(r, factor):
     """pages of the examples and of random schedules: figures, curves, ways, bounds, chains side by side"""
     for name, chains, numbers, gap in schedules():
         with open(name, "rb") as file:
-            text, refused = page.of_schedule("a page", calls.read_file(file.read()), None, 10)
-        same(refused, any(reference.check_chain(tasks, gap)[0] != "ok" for tasks in chains), "a refused chain", name)
-        yield check_page(text, chains, numbers, gap)
+            made = page.of_schedule("a page", calls.read_file(file.read()), None, 10)
+        same(bool(made.refusals), any(reference.check_chain(tasks, gap)[0] != "ok" for tasks in chains), "a refused chain", name)
+        yield check_page(made.text(), chains, numbers, gap)
     for _ in range(int(12 * factor)):
         chains = [inputs.cut_chain(r)[:8] for _ in range(r.randint(1, 4))]
         gap = inputs.some_gap(r, *chains)
         tasks, numbers = inputs.numbered(r, chains)
-        text, _ = page.of_schedule("a page", Schedule.of(tasks, numbers, gap), None, 10)
-        yield check_page(text, chains, numbers, gap)
+        yield check_page(page.of_schedule("a page", Schedule.of(tasks, numbers, gap), None, 10).text(), chains, numbers, gap)
 
 
 def main():

@@ -9,7 +9,7 @@ from dataclasses import dataclass
 from typing import Tuple
 
 from . import library
-from .lent import ROW, Bytes, Chain, Schedule, Table, WritableBytes, WritableNumbers, answers, lend, lend_bytes, number
+from .lent import ROW, Bytes, Chain, Schedule, Table, WritableBytes, WritableNumbers, answers, lend_bytes, lend_bytes_to_write, lend_to_write, number
 from .refusals import Refused
 
 # Reading a table answers a delay below this, or this and the refusal's number.
@@ -147,7 +147,7 @@ def age(chain: Chain, z: int) -> int:
 def make_table(chain: Chain, p: int, starts: WritableNumbers, latencies: WritableNumbers) -> Making:
     """The anchors are left in the lists. Where the lists are too short the refusal has what was made: its `made`."""
     figures = answers(4)
-    code = library.load().mo_make_table(*chain.lent(), number(p), *lend(starts), *lend(latencies), figures)
+    code = library.load().mo_make_table(*chain.lent(), number(p), *lend_to_write(starts), *lend_to_write(latencies), figures)
     if code == 11:
         raise Refused(11, 0, "chain", Making(*figures))
     _sound(code, figures, "chain")
@@ -176,7 +176,7 @@ def read_file(data: Bytes) -> Schedule:
 def write_file(schedule: Schedule, out: WritableBytes) -> int:
     """The length; the file is left in the first bytes of `out`."""
     length = answers(1)
-    _sound(library.load().mo_write_file(*schedule.lent(), *lend_bytes(out), length), length, "schedule")
+    _sound(library.load().mo_write_file(*schedule.lent(), *lend_bytes_to_write(out), length), length, "schedule")
     return length[0]
 
 
@@ -199,4 +199,4 @@ def bookings(schedule: Schedule, first: int, second: int, t: int) -> Bookings:
 
 def report(data: Bytes, out: WritableBytes) -> int:
     """The length of the text; as much of it as fits is left in `out`."""
-    return library.load().mo_report(*lend_bytes(data), *lend_bytes(out))
+    return library.load().mo_report(*lend_bytes(data), *lend_bytes_to_write(out))

@@ -3,6 +3,7 @@ from __future__ import annotations
 
 import argparse
 import os
+import stat
 import sys
 import traceback
 from typing import List, Optional
@@ -27,36 +28,61 @@ class Unsound(Exception):
 
 
 def shown(path: str, of: str = "standard input") -> str:
-    return of if path == STREAM else path
+    return of if path == STREAM else path or "''"
 
 
-def read(path: str) -> bytes:
+def read(path: str, most: int = -1) -> bytes:
+    """The bytes of a file or of standard input, or so many of them at most."""
     try:
         if path == STREAM:
-            return sys.stdin.buffer.read()
+            if sys.stdin is None:
+                raise Stop("standard input is closed")
+            return sys.stdin.buffer.read(most)
         with open(path, "rb") as file:
-            return file.read()
+            return file.read(most)
     except OSError as fault:
         raise Stop(f"{shown(path)} cannot be read: {fault.strerror}") from None
 
 
+def put(data: bytes) -> None:
+    """Writes to standard output, at once. What cannot be written is told, and nothing tries it again when the program ends."""
+    if sys.stdout is None:
+        raise Stop("standard output is closed")
+    try:
+        sys.stdout.buffer.write(data)
+        sys.stdout.buffer.flush()
+    except OSError as fault:
+        os.dup2(os.open(os.devnull, os.O_WRONLY), sys.stdout.fileno())
+        raise Stop(f"standard output cannot be written: {fault.strerror}") from None
+
+
+def say(lines: List[str]) -> None:
+    """Lines on standard output; a terminal that lacks a sign shows a question mark for it."""
+    encoding = sys.stdout.encoding if sys.stdout else "utf-8"
+    put("".join(line + "\n" for line in lines).encode(encoding, "replace"))
+
+
+def same_file(path: str, source: str) -> bool:
+    """Whether a file to be written is the one that was read, by its name or through standard input."""
+    try:
+        one, two = os.stat(path), os.fstat(sys.stdin.fileno()) if source == STREAM else os.stat(source)
+    except (OSError, ValueError, AttributeError):
+        return False
+    return stat.S_ISREG(one.st_mode) and os.path.samestat(one, two)
+
+
 def write(path: str, data: bytes, source: str) -> None:
     """Writes a file; never over the one that was read."""
-    if STREAM not in (path, source) and os.path.exists(path) and os.path.samefile(path, source):
+    if path == STREAM:
+        put(data)
+        return
+    if same_file(path, source):
         raise Stop(f"{path} is what was read; name another file to write")
     try:
-        if path == STREAM:
-            sys.stdout.buffer.write(data)
-            sys.stdout.buffer.flush()
-            return
         with open(path, "wb") as file:
             file.write(data)
     except OSError as fault:
-        raise Stop(f"{shown(path, 'standard output')} cannot be written: {fault.strerror}") from None
-
-
-def say(lines: List[str], to=None) -> None:
-    print("\n".join(lines), file=to or sys.stdout)
+        raise Stop(f"{shown(path)} cannot be written: {fault.strerror}") from None
 
 
 def schedule_of(path: str) -> Schedule:
@@ -66,7 +92,7 @@ def schedule_of(path: str) -> Schedule:
         return calls.read_file(data)
     except Refused as refused:
         hint = ""
-        if data.lstrip().startswith((b"task", b"#")):
+        if data.lstrip(b"\xef\xbb\xbf \t\r\n").startswith((b"task", b"chain", b"gap", b"#")):
             hint = f" It looks like a text; `{PROGRAM} write {shown(path, STREAM)} FILE` makes a file of it."
         raise Unsound(words.of_file(shown(path), data, refused) + hint) from None
 
@@ -104,7 +130,10 @@ def do_write(asked) -> int:
         data = read(asked.file)
     name = shown(asked.file, "standard output")
     lines = [f"{name}: {len(data)} bytes; the instrument will read", text.canonical(calls.read_file(data)).rstrip("\n")]
-    say(lines, sys.stderr if asked.file == STREAM else sys.stdout)
+    if asked.file == STREAM:
+        print("\n".join(lines), file=sys.stderr)
+    else:
+        say(lines)
     return 0
 
 
@@ -125,7 +154,7 @@ def do_check(asked) -> int:
 
 
 def do_report(asked) -> int:
-    data, out = read(asked.file)[:REPORTED], bytearray(calls.LONGEST_REPORT)
+    data, out = read(asked.file, REPORTED), bytearray(calls.LONGEST_REPORT)
     report = bytes(out[:calls.report(data, out)])
     write(STREAM, report, asked.file)
     return 1 if b"refused" in report else 0
@@ -164,11 +193,13 @@ def do_curve(asked) -> int:
 def do_page(asked) -> int:
     data, name = read(asked.file), title_of(asked.file)
     try:
-        made, refused = page.of_schedule(name, calls.read_file(data), asked.bound, asked.jobs)
+        made = page.of_schedule(name, calls.read_file(data), asked.bound, asked.jobs)
     except Refused as fault:
-        made, refused = page.of_refused(name, words.of_file("the file", data, fault)), True
-    write(asked.output, made.encode(), asked.file)
-    return 1 if refused else 0
+        made = page.of_refused(name, words.of_file("the file", data, fault))
+    write(asked.output, made.text().encode(), asked.file)
+    for sentence in made.refusals:
+        print(sentence, file=sys.stderr)
+    return 1 if made.refusals else 0
 
 
 def do_pair(asked) -> int:
@@ -192,15 +223,16 @@ def do_windows(asked) -> int:
 
 
 def title_of(path: str) -> str:
-    """What a picture calls a file: its name without folder and ending."""
-    return shown(path) if path == STREAM else os.path.splitext(os.path.basename(path))[0]
+    """What a picture calls a file: its name without folder and ending, with marks for what is no text."""
+    return shown(path) if path == STREAM else os.fsencode(os.path.splitext(os.path.basename(path))[0]).decode("utf-8", "replace")
 
 
 # ---- The arguments
 
 def as_ticks(word: str) -> int:
+    number, *unit = word.split(None, 1) or [word]
     try:
-        return measures.ticks(word)
+        return measures.ticks(number, *unit)
     except measures.Unclear as why:
         raise argparse.ArgumentTypeError(f"'{word}': {why}; right would be 42000, 42,000, 42000us, 42ms or 0.042s") from None
 
@@ -209,7 +241,8 @@ def as_number(word: str) -> int:
     try:
         return measures.whole(word)
     except measures.Unclear as why:
-        raise argparse.ArgumentTypeError(f"'{word}': {why}") from None
+        unit = "; a unit stands at its number, as in 42ms" if word in measures.UNITS else ""
+        raise argparse.ArgumentTypeError(f"'{word}': {why}{unit}") from None
 
 
 # Name, what it does, its arguments, an example.
@@ -242,9 +275,16 @@ COMMANDS = (
 )
 
 
+class Parser(argparse.ArgumentParser):
+    """The arguments; its help is printed as everything else is."""
+
+    def print_help(self, file=None) -> None:
+        put(self.format_help().encode())
+
+
 def arguments() -> argparse.ArgumentParser:
     examples = "\n".join(f"  {PROGRAM} {example}" for *_, example in COMMANDS)
-    parser = argparse.ArgumentParser(
+    parser = Parser(
         prog=PROGRAM, description="Schedules of cave-survey instruments: from a text to a file, to delays, and to pictures of them. Every number comes from the proved calls.",
         epilog=f"examples:\n{examples}\n\nThe exit status is 0; 1 where something is refused; 2 for wrong use, or where a file cannot be read or written.",
         formatter_class=argparse.RawDescriptionHelpFormatter,
@@ -262,24 +302,18 @@ def arguments() -> argparse.ArgumentParser:
 
 
 def main(given: Optional[List[str]] = None) -> int:
-    asked = arguments().parse_args(given)
-    for stream in (sys.stdout, sys.stderr):
-        # A terminal that lacks a sign shows a question mark for it.
-        stream.reconfigure(errors="replace")
+    sys.stderr = sys.stderr or open(os.devnull, "w")
     try:
-        status = asked.do(asked)
-        sys.stdout.flush()
-        return status
+        asked = arguments().parse_args(given)
+        return asked.do(asked)
+    except SystemExit as ended:
+        # Help, or arguments that are none.
+        return ended.code or 0
     except Unsound as why:
         print(why, file=sys.stderr)
         return 1
     except (Stop, Missing, calls.Broken, analysis.Disagreement) as why:
         print(f"{PROGRAM}: {why}", file=sys.stderr)
-        return 2
-    except OSError as fault:
-        # What was printed has not been written, as to a reader that has gone or a full disk; nothing may try it again at the end.
-        os.dup2(os.open(os.devnull, os.O_WRONLY), sys.stdout.fileno())
-        print(f"{PROGRAM}: standard output cannot be written: {fault.strerror}", file=sys.stderr)
         return 2
     except Exception:
         # A fault of this program is no refusal, so its status is not 1.

@@ -6,6 +6,7 @@ from typing import List, NamedTuple
 
 from . import limits
 from .lent import Task
+from .measures import counted
 from .refusals import MEANINGS, Refused
 
 TASK, CHAIN, END, GAP = 1, 2, 3, 4
@@ -71,12 +72,16 @@ def explained(data: bytes, refused: Refused) -> str:
     return refused.words
 
 
+# What may stand after a record of each kind, and at the beginning.
+FOLLOWS = {None: "a task", TASK: "another task or a chain", CHAIN: "another chain, the gap or the end", GAP: "the end"}
+
+
 def _stops(before: List[Record], left: int, offset: int) -> str:
     if not before and not left:
-        return "the file is empty"
-    after = f"after its {len(before)} {'record' if len(before) == 1 else 'records'}" if before else "at its beginning"
-    rest = f"{left} {'byte is' if left == 1 else 'bytes are'} left" if left else "nothing follows"
-    return f"{after}, at byte {offset:,}, {rest}, and an end record should follow" if before else f"{after} {rest}, and a record has at least 4"
+        return "the file is empty; it should begin with a task"
+    after = f"after its {counted(len(before), 'record')}, at byte {offset:,}," if before else "at its beginning"
+    rest = f"only {counted(left, 'byte')} {'is' if left == 1 else 'are'} left" if left else "the file ends"
+    return f"{after} {rest}, and {FOLLOWS[before[-1].kind if before else None]} should stand there"
 
 
 def _turn(before: List[Record], here: Record, which: str, left: int) -> str:
@@ -101,14 +106,14 @@ def _outside(before: List[Record], here: Record, which: str) -> str:
     task = here.task()
     name = limits.fault_of_task(task)
     if name == "rising":
-        return f"{which}, is task {task.number:,}, and the task before has the number {before[-1].task().number:,}; {limits.WORDS[name]}"
+        return f"{which}, is task {task.number}, and the task before has the number {before[-1].task().number}; {limits.WORDS[name]}"
     if name == "number":
-        return f"{which}, is a task with the number {task.number:,}; {limits.WORDS[name]}"
-    return f"{which}, is task {task.number:,}, and its {name} is {getattr(task, name):,}; {limits.WORDS[name]}"
+        return f"{which}, is a task with the number {task.number}; {limits.WORDS[name]}"
+    return f"{which}, is task {task.number}, and its {name} is {getattr(task, name):,}; {limits.WORDS[name]}"
 
 
 def _unknown(before: List[Record], here: Record, which: str) -> str:
     known = [record.task().number for record in before if record.kind == TASK]
     place, number = next((place, number) for place, number in enumerate(here.chain(), start=1) if number not in known)
     chain = 1 + sum(record.kind == CHAIN for record in before)
-    return f"{which}, is chain {chain}, and its place {place} names task {number:,}; the tasks are {', '.join(f'{each:,}' for each in known)}"
+    return f"{which}, is chain {chain}, and its place {place} names task {number}; the tasks are {', '.join(map(str, known))}"

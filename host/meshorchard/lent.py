@@ -18,9 +18,9 @@ ROW = 12
 # What a number that is lent for an answer holds before the call, so that one which the call did not write is seen.
 UNWRITTEN = 0xDEADBEEF
 
-Numbers = Union[Sequence[int], "array[int]", memoryview]
+Numbers = Union[Sequence[int], array, memoryview]
 Bytes = Union[bytes, bytearray, memoryview]
-WritableNumbers = Union["array[int]", memoryview]
+WritableNumbers = Union[array, memoryview]
 WritableBytes = Union[bytearray, memoryview]
 
 
@@ -31,16 +31,37 @@ def number(value: int) -> int:
     return value
 
 
+def _kind(numbers) -> str:
+    """How the entries of a list lie in memory."""
+    return numbers.typecode if isinstance(numbers, array) else numbers.format if isinstance(numbers, memoryview) else ""
+
+
 def lend(numbers: Numbers, length: Optional[int] = None) -> Tuple[ctypes.Array, int]:
-    """A lent list of numbers: its memory and its length, or a shorter one."""
-    held = numbers if isinstance(numbers, (array, memoryview)) else array("Q", numbers)
-    return (NUMBER * len(held)).from_buffer(held), len(held) if length is None else length
+    """A lent list of numbers: its memory and its length, or a shorter one. A list of another kind is copied, number by number."""
+    as_it_is = _kind(numbers) == "Q" and not (isinstance(numbers, memoryview) and numbers.readonly)
+    held = numbers if as_it_is else array("Q", list(numbers))
+    return (NUMBER * len(held)).from_buffer(held), len(held) if length is None else number(length)
+
+
+def lend_to_write(numbers: WritableNumbers) -> Tuple[ctypes.Array, int]:
+    """A list that a call writes to; what it wrote to a copy would be lost."""
+    if _kind(numbers) != "Q" or isinstance(numbers, memoryview) and numbers.readonly:
+        raise TypeError('a list to write to is an array("Q"), or a memoryview of one')
+    return lend(numbers)
 
 
 def lend_bytes(data: Bytes) -> Tuple[ctypes.Array, int]:
     """Lent bytes: their memory and their number."""
-    held = bytearray(data) if isinstance(data, bytes) else data
+    as_it_is = isinstance(data, (bytearray, memoryview)) and not memoryview(data).readonly
+    held = data if as_it_is else bytearray(data)
     return (ctypes.c_char * len(held)).from_buffer(held), len(held)
+
+
+def lend_bytes_to_write(data: WritableBytes) -> Tuple[ctypes.Array, int]:
+    """Bytes that a call writes to."""
+    if memoryview(data).readonly:
+        raise TypeError("bytes to write to are a bytearray, or a memoryview of one")
+    return lend_bytes(data)
 
 
 def answers(count: int) -> ctypes.Array:

@@ -53,16 +53,17 @@ def path() -> str:
 def load() -> ctypes.CDLL:
     """The shared object, loaded once, with each call declared as in the header."""
     where = path()
+    named = bool(os.environ.get(VARIABLE))
+    cure = f"{where} is what the variable {VARIABLE} names; without it the one that host/library makes is loaded"
+    if not named:
+        cure = f"host/library makes it, from the archives, with the Rattle toolchain and gcc; the variable {VARIABLE} names another one"
     if not os.path.exists(where):
-        raise Missing(
-            f"there is no shared object of the proved calls at {where}; host/library makes it, from the archives and with gcc and the Rattle toolchain, "
-            f"and the variable {VARIABLE} names another one"
-        )
+        raise Missing(f"there is no shared object of the proved calls at {where}; {cure}")
     try:
         found = ctypes.CDLL(where)
         for name, arguments in DECLARED.items():
             call = getattr(found, name)
             call.argtypes, call.restype = arguments, NUMBER
     except (OSError, AttributeError) as fault:
-        raise Missing(f"{where} is no shared object of these calls ({fault}); host/library makes it anew") from None
+        raise Missing(f"this is no shared object of the proved calls: {fault}; {cure}") from None
     return found

@@ -50,7 +50,9 @@ def ticks(word: str, unit: Optional[str] = None) -> int:
         raise Unclear("there are two units")
     if name not in UNITS:
         raise Unclear(f"'{name}' is no unit here; the units are us, ms and s")
-    value, part = _digits(found["whole"]) * UNITS[name], found["part"] or "0"
+    if found["part"] and not (found["unit"] or unit):
+        raise Unclear("a number with a point has a unit, as 2.5ms; 1.000 alone might be a thousand")
+    value, part = _digits(found["whole"]) * UNITS[name], (found["part"] or "").rstrip("0") or "0"
     if len(part) > MOST_DIGITS:
         raise Unclear("there are too many digits after the point")
     exact = value + Fraction(int(part) * UNITS[name], 10 ** len(part))

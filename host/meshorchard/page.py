@@ -3,7 +3,7 @@ from __future__ import annotations
 
 import itertools
 from html import escape
-from typing import Optional, Sequence, Tuple
+from typing import List, Optional, Sequence
 
 from . import calls, curve, drawing, timeline, words
 from .analysis import Figures, made
@@ -54,12 +54,13 @@ svg.picture{margin:1pt auto}svg.wide{display:block}svg.narrow{display:none}
 
 
 class Page:
-    """A page that is being made: its parts, and whether something on it is refused."""
+    """A page of so many chains that is being made: its parts, and what is refused on it."""
 
-    def __init__(self, name: str):
+    def __init__(self, name: str, chains: int):
         self.name = name
+        self.chains = chains
         self.parts = [f"<h1>{escape(name)}</h1>"]
-        self.refused = False
+        self.refusals: List[str] = []
 
     def add(self, *parts: str) -> None:
         self.parts += parts
@@ -69,27 +70,27 @@ class Page:
 
     def refuse(self, sentence: str) -> None:
         self.add(f'<p class="refused"><strong>Refused.</strong> {escape(sentence[0].upper() + sentence[1:])}</p>')
-        self.refused = True
+        self.refusals.append(sentence)
 
-    def text(self, chains: int) -> str:
-        """The whole page, of so many chains: on paper several stand side by side, and more than two are smaller."""
-        kind = "chains-1" if chains < 2 else "several" if chains == 2 else "several many"
+    def text(self) -> str:
+        """The whole page: on paper several chains stand side by side, and more than two are smaller."""
+        kind = "chains-1" if self.chains < 2 else "several" if self.chains == 2 else "several many"
         head = '<!doctype html>\n<html lang="en">\n<head>\n<meta charset="utf-8">\n<meta name="viewport" content="width=device-width, initial-scale=1">'
         style = f"<title>{escape(self.name)}: delays</title>\n<style>{STYLE}{drawing.rules('.picture')}</style>"
         foot = "<footer>The figures, curves and ways on this page come from the proved calls of Meshorchard. 1 tick is 1 µs.</footer>"
         return "\n".join([head, style, f'</head>\n<body>\n<main class="{kind}">', *self.parts, foot, "</main>\n</body>\n</html>"]) + "\n"
 
 
-def of_refused(name: str, sentence: str) -> str:
+def of_refused(name: str, sentence: str) -> Page:
     """The page of a file that is no schedule."""
-    page = Page(name)
+    page = Page(name, 0)
     page.refuse(sentence)
-    return page.text(0)
+    return page
 
 
-def of_schedule(name: str, schedule: Schedule, bound: Optional[int], jobs: int) -> Tuple[str, bool]:
-    """The page of a schedule, and whether something on it is refused. Without a bound each chain has one of its own."""
-    page = Page(name)
+def of_schedule(name: str, schedule: Schedule, bound: Optional[int], jobs: int) -> Page:
+    """The page of a schedule. Without a bound each chain has one of its own."""
+    page = Page(name, schedule.chain_count)
     page.add(f'<p class="faint">{counted(schedule.count, "task")}, {counted(schedule.chain_count, "chain")}, {escape(words.of_gap(schedule.gap))}.</p>')
     _tasks(page, schedule)
     page.add('<div class="chains">')
@@ -103,7 +104,7 @@ def of_schedule(name: str, schedule: Schedule, bound: Optional[int], jobs: int) 
     page.add("</div>")
     if schedule.chain_count > 1:
         _pairs(page, schedule)
-    return page.text(schedule.chain_count), page.refused
+    return page
 
 
 def _tasks(page: Page, schedule: Schedule) -> None:

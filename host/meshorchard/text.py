@@ -22,6 +22,10 @@ AS_CHAIN = "chain 7 9 9"
 AS_GAP = "gap 10"
 
 
+# Not splitlines, which knows more ends of lines than an editor does.
+ENDS = re.compile("\r\n|\n|\r")
+
+
 class WrongLine(Exception):
     """A line that is no line of a schedule: its number, the word that is wrong, where it is one, and what would be right."""
 
@@ -32,7 +36,8 @@ class WrongLine(Exception):
         self.right = right
 
     def __str__(self) -> str:
-        return f"line {self.line}: {'' if self.word is None else repr(self.word) + ' is wrong: '}{self.right}"
+        word = self.word if self.word is None or len(self.word) <= 40 else self.word[:40] + ".."
+        return f"line {self.line}: {'' if word is None else repr(word) + ' is wrong: '}{self.right}"
 
 
 class Line:
@@ -40,7 +45,8 @@ class Line:
 
     def __init__(self, number: int, text: str):
         self.number = number
-        self.words = text.split("#", 1)[0].split()
+        # Spaces and tabs; a space that does not break is what word processors write for one.
+        self.words = re.findall("[^ \t\u00a0]+", text.split("#", 1)[0])
         self.next = 0
 
     def wrong(self, at: Optional[int], right: str) -> WrongLine:
@@ -55,9 +61,9 @@ class Line:
 
     def word(self, wanted: str, example: str) -> None:
         """The next word is this one; after a time without a unit it might have been a unit."""
-        unit = "" if self.next == 2 or self.words[self.next - 1][-1] == "s" else "a unit, which is us, ms or s, or "
+        unit = "" if self.next == 2 else self.unit()
         if self.take(f"'{wanted}' should follow, as in '{example}'") != wanted:
-            raise self.wrong(self.next - 1, f"{unit}'{wanted}' should stand here, as in '{example}'")
+            raise self.wrong(self.next - 1, f"{unit and unit + 'or '}'{wanted}' should stand here, as in '{example}'")
 
     def whole(self, limit: str, example: str) -> int:
         """The next word is a plain number."""
@@ -79,9 +85,14 @@ class Line:
         self.next += unit is not None
         return found
 
+    def unit(self) -> str:
+        """What might stand after a time that has no unit."""
+        return "" if self.words[self.next - 1][-1] == "s" else "a unit, which is us, ms or s, "
+
     def end(self, what: str) -> None:
         if self.next < len(self.words):
-            raise self.wrong(self.next, f"nothing stands after {what}")
+            unit = self.unit()
+            raise self.wrong(self.next, f"{unit}or nothing stands after {what}" if unit else f"nothing stands after {what}")
 
 
 class Reader:
@@ -166,8 +177,7 @@ class Reader:
 
 def read(text: str) -> Schedule:
     """The schedule of a text, which the proved writer accepts; or the first line that is wrong."""
-    # Not splitlines, which counts more ends of lines than an editor does.
-    reader, lines = Reader(), re.split("\r\n|\n|\r", text)
+    reader, lines = Reader(), ENDS.split(text)
     for number, each in enumerate(lines, start=1):
         line = Line(number, each)
         if line.words:
@@ -180,12 +190,19 @@ def read(text: str) -> Schedule:
 
 def decoded(data: bytes) -> str:
     """The text in bytes of a text file."""
+    if data[:2] in (b"\xff\xfe", b"\xfe\xff"):
+        raise WrongLine(1, None, "the text is in UTF-16; save it as UTF-8")
     if b"\0" in data:
-        raise WrongLine(data.count(b"\n", 0, data.index(b"\0")) + 1, None, "this is no text; is it a schedule file? `text` shows one as text")
+        raise WrongLine(_line(data[:data.index(b"\0")]), None, "this is no text; if it is a schedule file, `text` shows it as one")
     try:
         return data.decode("utf-8-sig")
     except UnicodeDecodeError as fault:
-        raise WrongLine(data.count(b"\n", 0, fault.start) + 1, None, "there is a byte that is no UTF-8 text") from None
+        raise WrongLine(_line(data[:fault.start]), None, f"the byte {data[fault.start]:#04x} is no UTF-8 text; save the text as UTF-8") from None
+
+
+def _line(before: bytes) -> int:
+    """The number of the line in which these bytes end."""
+    return len(ENDS.split(before.decode("utf-8", "replace")))
 
 
 def canonical(schedule: Schedule) -> str:

@@ -1,0 +1,1210 @@
+"""The command ./meshorchard and the host package against the reference: every command, texts both ways, wrong lines, limits, refused files in words, the package, streams.
+
+    python3 tests/tools.py [--count FACTOR] [--seed SEED]
+
+What must hold is taken from include/meshorchard.h, from `./meshorchard --help` and from the reference; texts and their faults are formatted and judged here. The many
+cases call the command in this process, a few dozens of each kind run ./meshorchard itself. A group gives cases: what was looked at, what the command or the package gave,
+and what it should be. The last line is 'N passed, M failed', in groups; a group without a case has failed.
+"""
+import argparse
+import ast
+import collections
+import concurrent.futures
+import dataclasses
+import functools
+import glob
+import inspect
+import io
+import itertools
+import math
+import os
+import random
+import re
+import shutil
+import struct
+import subprocess
+import sys
+import tempfile
+import time
+import typing
+import xml.etree.ElementTree
+from array import array
+from fractions import Fraction
+
+HERE = os.path.dirname(os.path.abspath(__file__))
+TOP = os.path.dirname(HERE)
+sys.path[:0] = [HERE, os.path.join(TOP, "reference")]
+import inputs
+import meshorchard_reference as reference
+import proved
+import report as reports
+from meshorchard import Chain, Refused, Schedule, Table, calls, command
+
+PROGRAM = os.path.join(TOP, "meshorchard")
+EXAMPLES = sorted(glob.glob(os.path.join(TOP, "examples", "*.schedule")))
+LASER = os.path.join(TOP, "examples", "laser.schedule")
+LASER_TEXT = os.path.join(TOP, "examples", "laser.txt")
+# A number with separators, and a time: in microseconds, from a millisecond on in milliseconds too.
+COUNT = r"([0-9,]+)"
+TIME = r"([0-9,]+) µs(?: \(([0-9,.]+) ms\))?"
+GROUPS = []
+# The arguments are the same for every call in this process; making them anew would take most of its time.
+command.arguments = functools.lru_cache(maxsize=None)(command.arguments)
+
+
+def group(function):
+    GROUPS.append(function)
+    return function
+
+
+class Answer(typing.NamedTuple):
+    status: int
+    out: bytes
+    err: str
+
+    def text(self):
+        return self.out.decode("utf-8", "replace")
+
+
+# ---- Running the command
+
+def called(*arguments, stdin=b""):
+    """The command in this process."""
+    kept = sys.stdin, sys.stdout, sys.stderr
+    streams = [io.TextIOWrapper(io.BytesIO(data), encoding="utf-8") for data in (stdin, b"", b"")]
+    sys.stdin, sys.stdout, sys.stderr = streams
+    try:
+        status = command.main([str(argument) for argument in arguments])
+    except SystemExit as left:
+        status = left.code
+    finally:
+        sys.stdin, sys.stdout, sys.stderr = kept
+    for stream in streams[1:]:
+        stream.flush()
+    return Answer(status, streams[1].buffer.getvalue(), streams[2].buffer.getvalue().decode("utf-8"))
+
+
+def surroundings(**more):
+    """What a process of the command finds: no other shared object, the usual width, signs beyond ASCII, and no setting of Python, as one that writes without a buffer."""
+    kept = {name: value for name, value in os.environ.items() if not name.startswith("PYTHON") and name not in ("MESHORCHARD_LIBRARY", "COLUMNS")}
+    return {**kept, "LC_ALL": "C.UTF-8", "PYTHONDONTWRITEBYTECODE": "1", **more}
+
+
+def ran(arguments, given=b"", **how):
+    """The command as a process of its own, with bytes on its standard input or with other streams."""
+    data = {} if "stdin" in how else {"input": given}
+    done = subprocess.run([PROGRAM, *map(str, arguments)], **{"stdout": subprocess.PIPE, "stderr": subprocess.PIPE, "cwd": TOP, "env": surroundings(), **data, **how})
+    return Answer(done.returncode, done.stdout or b"", done.stderr.decode("utf-8", "replace"))
+
+
+def ran_all(many):
+    """Some of them at once."""
+    with concurrent.futures.ThreadPoolExecutor(2) as workers:
+        return list(workers.map(lambda each: ran(*each[:2], **(each[2] if len(each) > 2 else {})), many))
+
+
+def put(folder, name, data):
+    """A file of these bytes."""
+    path = os.path.join(folder, name)
+    with open(path, "wb") as file:
+        file.write(data)
+    return path
+
+
+def content(path):
+    """What a file holds, None where there is none."""
+    if not os.path.exists(path):
+        return None
+    with open(path, "rb") as file:
+        return file.read()
+
+
+# ---- What the command prints, as numbers
+
+def number(word):
+    return int(word.replace(",", ""))
+
+
+def time_of(found, at=1):
+    """The ticks of a time that was found; what it says in milliseconds must be the same."""
+    ticks, thousands = number(found[at]), found[at + 1]
+    same = thousands is None and ticks < 1000 or thousands is not None and Fraction(thousands.replace(",", "")) * 1000 == ticks
+    return ticks if same else (ticks, thousands)
+
+
+def way_of(answer, says, ends):
+    """The chain, the tick and the answer of a way, its rows (place, task, job, read, write) and the tick in its last line; the whole answer where it has another form."""
+    lines = answer.text().splitlines()
+    first = re.match(rf"chain {COUNT}, .* at tick {COUNT}: {says} {TIME}", lines[0]) if lines else None
+    rows = [re.fullmatch(rf" +place {COUNT} +task {COUNT} +job {COUNT} +reads at {COUNT} +writes at {COUNT}", line) for line in lines[1:-1]]
+    last = re.fullmatch(rf" +{ends} at tick {COUNT}", lines[-1]) if lines else None
+    if answer.status or answer.err or not first or not last or not all(rows):
+        return answer
+    return number(first[1]), number(first[2]), time_of(first, 3), [tuple(map(number, row.groups())) for row in rows], number(last[1])
+
+
+def refused_with(answer):
+    """Status, the refusal's number and, of a file, its place; the whole answer where there is another."""
+    found = re.search(rf"refused with (\d+)(?: at {COUNT})?: .+", answer.err)
+    if not found or answer.out or answer.err.count("\n") != 1:
+        return answer
+    return answer.status, int(found[1]), None if found[2] is None else number(found[2])
+
+
+def check_of(answer):
+    """Status, tasks, the gap, and of each chain its tasks, hyperperiod, first tick of a press and of a leg, warm-up jobs and anchors, or 7, which refuses it."""
+    lines, chains = answer.text().splitlines(), []
+    head = re.search(rf": (\d+) tasks?, (\d+) chains?, (?:no gap|gap {TIME})", lines[0]) if lines else None
+    if not head or answer.err:
+        return answer
+    tasks = [tuple(map(number, found)) for found in re.findall(rf"^  task {COUNT} +period {COUNT} +duration {COUNT} +phase {COUNT}$", answer.text(), re.MULTILINE)]
+    for part in re.split(r"^(?=  chain )", answer.text(), flags=re.MULTILINE)[1:]:
+        head_of = r"  chain (\d+): tasks? ([0-9]+(?:, then [0-9]+)*)\n"
+        form = rf"{head_of} +hyperperiod {TIME}: .*\n.*delay from tick {COUNT} on.*age from tick {COUNT} on\n.*counted from 0: (.+)\n"
+        # A table for which a report has no room is told as one that is refused.
+        form += rf"    (table: |chain \1 is refused with 11 in a report: its table has ){COUNT} anchors?(?:, and a report has room for 1,024\.)?\n"
+        found, no = re.fullmatch(form, part), re.fullmatch(rf"{head_of}    chain \1 is refused with (\d+): .+\n", part)
+        if not found and not no:
+            return answer
+        if no:
+            chains.append((int(no[1]), int(no[3])))
+        else:
+            places, jobs = (list(map(number, re.split(sign, found[i]))) for sign, i in ((", then ", 2), (", ", 7)))
+            chains.append((int(found[1]), places, time_of(found, 3), number(found[5]), number(found[6]), jobs, number(found[9]), found[8] == "table: "))
+    counts_right = (int(head[1]), int(head[2])) == (len(tasks), len(chains))
+    return (answer.status, tasks, time_of(head, 3) if head[3] else 0, chains) if counts_right else answer
+
+
+# ---- What the reference says of the same
+
+class File(typing.NamedTuple):
+    """A schedule file that is accepted, and what the reference reads from it."""
+    path: str
+    data: bytes
+    tasks: list
+    chains: list
+    gap: int
+
+    def places(self, c):
+        """T, D, F at the places of chain c, from 1."""
+        known = {number: tuple(task) for number, *task in self.tasks}
+        return [known[number] for number in self.chains[c - 1]]
+
+
+def file_of(path):
+    data = content(path)
+    return File(path, data, *reference.read_file(data)[1:])
+
+
+def rows_of(file, c, jobs):
+    """A way as it is printed."""
+    places = file.places(c)
+    return [(i + 1, file.chains[c - 1][i], job, reference.read_of(places[i], job), reference.write_of(places[i], job)) for i, job in enumerate(jobs)]
+
+
+def delay_right(file, c, t):
+    places = file.places(c)
+    answer = reference.delay(places, file.gap, t)
+    if answer[0] != "ok":
+        return 1, answer[1], None
+    jobs = [reference.earliest_reading_at_or_after(places[0], t + 1)]
+    for before, here in zip(places, places[1:]):
+        jobs.append(reference.earliest_reading_at_or_after(here, reference.write_of(before, jobs[-1]) + file.gap))
+    return c, t, answer[1], rows_of(file, c, jobs), t + answer[1]
+
+
+def age_right(file, c, z):
+    places = file.places(c)
+    answer = reference.age(places, file.gap, z)
+    if answer[0] != "ok":
+        return 1, answer[1], None
+    jobs = reference.backward_way(places, file.gap, len(places), reference.latest_writing_at_or_before(places[-1], z))
+    return c, z, answer[1], rows_of(file, c, jobs), z - answer[1]
+
+
+def first_leg(places, warm):
+    return reference.write_of(places[-1], warm[1][-1])
+
+
+def anchors_of(places, gap):
+    """How many anchors a chain has; where the reference is slow, by the call."""
+    periods = [t for t, _, _ in places]
+    cut, partitions = periods.index(max(periods)) + 1, math.lcm(*periods) // max(periods)
+    if partitions <= 20000:
+        return len(reference.anchors(places, gap, cut))
+    return proved.make(inputs.flat(places), len(places), gap, cut, [0] * partitions, [0] * partitions)[0][1]
+
+
+def check_right(file):
+    chains = []
+    for c, numbers in enumerate(file.chains, start=1):
+        places = file.places(c)
+        warm = reference.warm_up(places, file.gap)
+        if warm[0] == "ok":
+            anchors = anchors_of(places, file.gap)
+            chains.append((c, numbers, warm[3], warm[2], first_leg(places, warm), warm[1], anchors, anchors <= 1024))
+        else:
+            chains.append((c, warm[1]))
+    return int(any(len(chain) == 2 or not chain[-1] for chain in chains)), file.tasks, file.gap, chains
+
+
+def canonical(tasks, chains, gap):
+    """The canonical text."""
+    lines = ["task %d period %d duration %d phase %d\n" % task for task in tasks]
+    lines += ["chain" + "".join(f" {number}" for number in chain) + "\n" for chain in chains]
+    return "".join(lines + [f"gap {gap}\n"] * (gap > 0)).encode()
+
+
+# ---- 1: every command
+
+def ticks_of(r, file, c):
+    """Ticks for a press or a leg at a chain: around its first ones, within two hyperperiods and around the upper tick."""
+    warm = reference.warm_up(file.places(c), file.gap)
+    if warm[0] != "ok":
+        return [0, 10**6]
+    firsts = [warm[2], first_leg(file.places(c), warm)]
+    some = [tick + step for tick in firsts for step in (-1, 0, 1)] + [reference.UPPER_TICK, reference.UPPER_TICK + 1, 2**64 - 1]
+    return [tick for tick in some + [r.randint(min(firsts), max(firsts) + 2 * warm[3]) for _ in range(3)] if tick >= 0]
+
+
+def ways_cases(r, file):
+    """delay and age of each chain, and of chains that there are not."""
+    for c in range(1, len(file.chains) + 1):
+        for t in ticks_of(r, file, c):
+            # Chain 1 need not be named.
+            named = () if c == 1 and r.random() < 0.5 else (c,)
+            for word, says, ends, right in (("delay", "the delay is", "booked", delay_right), ("age", "the newest reading is", "read", age_right)):
+                answer = called(word, file.path, t, *named)
+                yield f"{word} {file.path} {t} chain {c}", refused_with(answer) if answer.status else way_of(answer, says, ends), right(file, c, t)
+    for word, c in itertools.product(("delay", "age"), (0, len(file.chains) + 1, 2**64 - 1)):
+        yield f"{word} of chain {c}", refused_with(called(word, file.path, 10**6, c)), (1, 16, None)
+
+
+def pair_of(answer):
+    """The press, the two chains and the four figures."""
+    bookings, differences = rf" +later booking +tick {COUNT}\n +earlier booking +tick {COUNT}\n", rf" +difference +{TIME}\n +greatest difference .*? {TIME}\n"
+    found = re.search(rf"tick {COUNT}, chains {COUNT} and {COUNT}:\n{bookings}{differences}$", answer.text())
+    return (*(number(found[i]) for i in range(1, 6)), time_of(found, 6), time_of(found, 8)) if found and not answer.err and not answer.status else answer
+
+
+def pair_cases(r, file):
+    """pair on all chains of a file whose common hyperperiod the reference goes through quickly, and on a chain that there is not."""
+    count = len(file.chains)
+    counted = [(len(chain), chain) for chain in file.chains]
+    for n, m in itertools.product(range(1, count + 1), repeat=2):
+        periods = [task[0] for task in file.places(n) + file.places(m)]
+        if math.lcm(*periods) // max(periods) > 500 and math.lcm(*periods) <= inputs.MOST_HYPER:
+            continue
+        for t in r.sample(ticks_of(r, file, n) + ticks_of(r, file, m), 3):
+            right = reference.bookings_of(len(file.tasks), file.tasks, count, counted, file.gap, n, m, t)
+            answer = called("pair", file.path, t, n, m)
+            yield f"pair {file.path} {t} {n} {m}", refused_with(answer) if answer.status else pair_of(answer), (t, n, m, *right[1:]) if right[0] == "ok" else (1, right[1], None)
+    yield f"pair {file.path} of no chain", refused_with(called("pair", file.path, 10**6, 1, count + 1)), (1, 16, None)
+    yield f"pair {file.path} of chain 0", refused_with(called("pair", file.path, 10**6, 0, 1)), (1, 16, None)
+
+
+def windows_of(answer):
+    """The chain, the bound, the jobs of a window, the misses and the first job; no job is told where none misses."""
+    form = rf"chain {COUNT}: of {COUNT} successive jobs? of the first place (?:none|at most {COUNT}) takes? longer than ([0-9,.]+) (µs|ms) .*?(?:; job {COUNT} is the first .*)?\n$"
+    found = re.match(form, answer.text())
+    if not found or answer.err or answer.status:
+        return answer
+    bound = Fraction(found[4].replace(",", "")) * (1000 if found[5] == "ms" else 1)
+    return number(found[1]), bound, number(found[2]), number(found[3] or "0"), found[6] and number(found[6])
+
+
+def windows_cases(r, file):
+    for c in range(1, len(file.chains) + 1):
+        places = file.places(c)
+        if reference.check_chain(places, file.gap)[0] == "ok" and reference.hyperperiod(places) // places[0][0] > 1000:
+            continue
+        for k in (0, 1, 10, 100, 101):
+            bound = r.choice([0, 2**64 - 1, sum(place[1] for place in places), sum(place[0] + place[1] for place in places)])
+            right = reference.windows(places, file.gap, bound, k)
+            answer = called("windows", file.path, bound, k, "--chain", c)
+            expected = (c, bound, k, right[1], right[2] if right[1] else None) if right[0] == "ok" else (1, right[1], None)
+            yield f"windows {file.path} {bound} {k} of chain {c}", refused_with(answer) if answer.status else windows_of(answer), expected
+
+
+def picture_faults(data):
+    """What is wrong with an SVG."""
+    try:
+        return None if xml.etree.ElementTree.fromstring(data).tag == "{http://www.w3.org/2000/svg}svg" else "the root is no svg"
+    except xml.etree.ElementTree.ParseError as fault:
+        return str(fault)
+
+
+def page_faults(data):
+    """What an HTML page would fetch from elsewhere."""
+    held = data.decode("utf-8").replace("http://www.w3.org/2000/svg", "")
+    found = re.findall(r"src\s*=.{0,40}|https?:.{0,40}|@import.{0,40}|url\((?!#).{0,40}", held)
+    return found or (None if held.lstrip().lower().startswith("<!doctype html") and held.rstrip().endswith("</html>") else "this is no whole page")
+
+
+def picture_cases(folder, file, statuses):
+    """curve and page: a status, and an output that is a picture or a page. `statuses` are those of the curve of each chain and of the page."""
+    out = os.path.join(folder, "out")
+    for c, status in enumerate(statuses[:-1], start=1):
+        answer = called("curve", file.path, "-o", out, "--chain", c)
+        yield f"curve {file.path} of chain {c}", (answer.status, picture_faults(content(out)) if os.path.exists(out) else "no file"), (status, "no file" if status else None)
+        if os.path.exists(out):
+            os.remove(out)
+    answer = called("page", file.path, "-o", out, "--bound", 5000, "--jobs", 7)
+    yield f"page {file.path}", (answer.status, page_faults(content(out) or b"")), (statuses[-1], None)
+    os.remove(out)
+
+
+def accepted_cases(r, folder, file):
+    """Every command on a file that is accepted; a chain may be refused."""
+    right = reference.report(file.data)
+    chains = [len(chain) == 2 for chain in check_right(file)[3]]
+    yield f"report {file.path}", called("report", file.path), Answer(int(b"refused" in right), right, "")
+    yield f"chainreport {file.path}", reports.printed(file.data), right
+    yield f"text {file.path}", called("text", file.path), Answer(0, canonical(file.tasks, file.chains, file.gap), "")
+    yield f"check {file.path}", check_of(called("check", file.path)), check_right(file)
+    yield from ways_cases(r, file)
+    yield from pair_cases(r, file)
+    yield from windows_cases(r, file)
+    yield from picture_cases(folder, file, [*map(int, chains), int(any(chains) or no_common(file))])
+
+
+def no_common(file):
+    """Whether two chains of a file have no common hyperperiod within the limit, which a page says as a refusal."""
+    hypers = [math.lcm(*[t for t, _, _ in file.places(c)]) for c in range(1, len(file.chains) + 1)]
+    return any(math.lcm(one, two) > inputs.MOST_HYPER for one, two in itertools.combinations(hypers, 2))
+
+
+def refused_files(r, folder):
+    """For each refusal a file that has it, and some of its own kind: each with the number and the place."""
+    tasks, chains = inputs.schedule(r, 3, [2, 1])
+    parts, wanted = inputs.records(tasks, chains, 5), {1, 2, 3, 4, 5, 6}
+    for data in itertools.chain(inputs.dropped(r, parts), inputs.wrong_lengths(r, parts), inputs.inserted(r, parts), inputs.edge_files(r, tasks, chains, 5)):
+        found = reference.read_file(data)
+        if found[0] != "ok" and found[1] in wanted:
+            wanted.discard(found[1])
+            yield put(folder, f"refused-{found[1]}.schedule", data), found[1], found[2]
+    assert not wanted, wanted
+    yield put(folder, "empty.schedule", b""), 1, 0
+    yield put(folder, "text.schedule", content(LASER_TEXT)), *reference.read_file(content(LASER_TEXT))[1:]
+
+
+def arguments_for(word, path, out):
+    """The command on a file."""
+    return [word, path, *{"delay": [10**6], "age": [10**6], "pair": [10**6, 1, 1], "windows": [5000, 10], "curve": ["-o", out], "page": ["-o", out]}.get(word, [])]
+
+
+ON_FILES = ("text", "check", "report", "delay", "age", "pair", "windows", "curve", "page")
+
+
+def refused_cases(r, folder):
+    """Every command on files that are refused, missing or no file."""
+    out = os.path.join(folder, "out")
+    for path, refusal, place in refused_files(r, folder):
+        for word in ON_FILES:
+            answer = called(*arguments_for(word, path, out))
+            if word == "report":
+                yield f"report {path}", answer, Answer(1, b"refused %d %d\n" % (refusal, place), "")
+            elif word == "page":
+                # The page is made all the same, and tells it.
+                yield f"page {path}", (answer.status, page_faults(content(out)), f"refused with {refusal} at {place:,}".encode() in content(out)), (1, None, True)
+                os.remove(out)
+            else:
+                begins = answer.err.startswith(f"{path} is refused with {refusal} at {place:,}: ")
+                yield f"{word} {path}", (refused_with(answer), begins, content(out)), ((1, refusal, place), True, None)
+    yield "check of a text", "write" in called("check", os.path.join(folder, "text.schedule")).err, True
+    for path, word in itertools.product((os.path.join(folder, "missing"), folder), ON_FILES):
+        answer = called(*arguments_for(word, path, out))
+        yield f"{word} {path}", (answer.status, answer.out, path in answer.err, content(out)), (2, b"", True, None)
+    for path in (os.path.join(folder, "missing"), folder):
+        answer = called("write", path, out)
+        yield f"write {path}", (answer.status, answer.out, path in answer.err, content(out)), (2, b"", True, None)
+
+
+def long_cases(r, folder):
+    """report of more than the 4,096 bytes that the instrument's program looks at; check judges them all."""
+    for data in reports.long(r, 0.1):
+        path = put(folder, "long-input", data)
+        yield f"report of {len(data)} bytes", called("report", path), Answer(1, reference.report(data), "")
+        yield f"check of {len(data)} bytes", refused_with(called("check", path)), (1, *reference.read_file(data)[1:])
+
+
+def wrong_use_cases(folder):
+    """Wrong use: status 2, nothing printed, and the wrong word told."""
+    out = os.path.join(folder, "out")
+    some = [([], "COMMAND"), (["chekc", LASER], "chekc"), (["check"], "FILE"), (["check", LASER, "more"], "more"), (["curve", LASER], "-o"), (["write", LASER_TEXT], "FILE")]
+    some += [(["explain"], "N")] + [(["explain", word], word) for word in ("0", "17", "18446744073709551616", "x", "-1", "1.5")] + [(["explain", "5", "x"], "x")]
+    for bad in ("-1", "x", "1.5", "18446744073709551616", "5ns", "1,0", "", "١", "1e3", "0.0000001s"):
+        wrong = (["delay", LASER, bad], ["age", LASER, bad, "1"], ["pair", LASER, bad, "1", "1"], ["windows", LASER, bad, "5"], ["page", LASER, "-o", out, "--bound", bad])
+        some += [(arguments, bad) for arguments in wrong]
+    for bad in ("-1", "x", "1.5", "18446744073709551616", "1ms", ""):
+        wrong = (["delay", LASER, "5", bad], ["pair", LASER, "5", "1", bad], ["windows", LASER, "5", bad], ["curve", LASER, "-o", out, "--chain", bad], ["page", LASER, "-o", out, "--jobs", bad])
+        some += [(arguments, bad) for arguments in wrong]
+    for arguments, word in some:
+        answer = called(*arguments)
+        yield " ".join(map(str, arguments)), (answer.status, answer.out, word in answer.err, "Traceback" in answer.err, content(out)), (2, b"", True, False, None)
+
+
+def like_processes(folder, files):
+    """./meshorchard gives what the calls in this process give."""
+    out = os.path.join(folder, "out")
+    some = [arguments_for(word, path, out) for path in files for word in ON_FILES if word not in ("curve", "page")]
+    some += [["explain", "5", "18"], ["explain", "17"], ["delay", LASER, "95ms"], ["delay", LASER, "x"], []]
+    for arguments, answer in zip(some, ran_all([(arguments,) for arguments in some])):
+        yield f"./meshorchard {' '.join(map(str, arguments))}", answer, called(*arguments)
+
+
+@group
+def commands(r, factor):
+    """every command on the examples, on other files and on refused ones, with the reference's numbers"""
+    with tempfile.TemporaryDirectory() as folder:
+        # Beside the examples: any chains, a hyperperiod that is too long beside one that is not, and more anchors than a report has room for.
+        some = {"long": [[(999983, 1, 0), (999979, 1, 0)], [(4, 4, 0), (6, 6, 0)], [(768, 5, 1), (78125, 9, 2)]], "anchors": [reports.near_slots(r, 1030)]}
+        some.update({f"any-{i}": reports.quick_chains(r, i % 4 + 1) for i in range(int(12 * factor))})
+        files = [file_of(path) for path in EXAMPLES] + [file_of(put(folder, f"{name}.schedule", b"".join(reports.file_of(r, chains)))) for name, chains in some.items()]
+        assert len(EXAMPLES) >= 8 and {7, 11} <= {found[0] for file in files for found in reports.refusals(file.data).values()}
+        for file in files:
+            yield from accepted_cases(r, folder, file)
+        for name in EXAMPLES:
+            out = os.path.join(folder, "written")
+            yield f"write of the text beside {name}", (called("write", name[:-9] + ".txt", out).status, content(out)), (0, content(name))
+        yield from refused_cases(r, folder)
+        yield from long_cases(r, folder)
+        yield from wrong_use_cases(folder)
+        for jobs in (0, 101):
+            yield f"page with windows of {jobs} jobs, which are refused with 15", called("page", LASER, "-o", os.path.join(folder, "out"), "--jobs", jobs).status, 1
+        for refusal in range(1, 17):
+            answer = called("explain", refusal)
+            yield f"explain {refusal}", (answer.status, answer.text().startswith(f"{refusal}: "), answer.text().count("\n") >= 2, answer.err), (0, True, True, "")
+        yield from like_processes(folder, [LASER, os.path.join(folder, "long.schedule"), os.path.join(folder, "refused-5.schedule"), os.path.join(folder, "missing")])
+
+
+# ---- 2: texts both ways
+
+def grouped(value, sign):
+    return f"{value:,}".replace(",", sign)
+
+
+def decimal(value, digits):
+    """So many millionths or thousandths as a decimal number; zeros at its end may stay or go."""
+    before, after = divmod(value, 10**digits)
+    return before, f"{after:0{digits}d}"
+
+
+def spelt(r, ticks):
+    """A time as someone may write it, exactly."""
+    unit, digits = r.choice([("", 0), ("", 0), ("us", 0), ("ms", 3), ("s", 6)])
+    before, after = decimal(ticks, digits) if digits else (ticks, "")
+    word = r.choice([str, str, lambda value: grouped(value, ","), lambda value: grouped(value, "_")])(before)
+    after = r.choice([after, after.rstrip("0")])
+    return word + ("." + after if after else "") + r.choice(["", " ", "\t "] if unit else [""]) + unit
+
+
+def not_canonical(r, tasks, chains, gap):
+    """A text of a schedule with units, separators, comments, blank lines, tabs, other ends of lines and what else is permitted."""
+    counted = lambda value: r.choice([str(value), grouped(value, ","), grouped(value, "_")])
+    rows = [["task", counted(n), "period", spelt(r, t), "duration", spelt(r, d), "phase", spelt(r, f)] for n, t, d, f in tasks]
+    rows += [["chain", *map(counted, chain)] for chain in chains]
+    rows += [["gap", spelt(r, gap)]] if gap or r.random() < 0.5 else []
+    lines = []
+    for row in rows:
+        lines += r.choice([[], [], [""], ["  \t"], ["# chain 9 9, and no line: µ"], ["\t#"]])
+        lines.append(r.choice(["", " ", "\t"]) + r.choice([" ", "  ", "\t", " \t "]).join(row) + r.choice(["", " ", "\t", "# a comment", "  # gap 7 # more"]))
+    end = r.choice(["\n", "\n", "\r\n"])
+    return r.choice([b"", b"", b"\xef\xbb\xbf"]) + (end.join(lines) + r.choice(["", end, end + end])).encode()
+
+
+def some_schedules(r, count):
+    """Schedules of every permitted gap in turn, at all counts."""
+    for i in range(count):
+        tasks, chains = inputs.any_schedule(r)
+        yield tasks, chains, i % (inputs.MOST_GAP + 1)
+
+
+def in_process_both_ways(folder, tasks, chains, gap):
+    """From the bytes of a file to its text and from the text to a file, which is shown again."""
+    data, text, out = b"".join(inputs.records(tasks, chains, gap)), canonical(tasks, chains, gap), os.path.join(folder, "out")
+    yield f"text of {data.hex()}", called("text", "-", stdin=data), Answer(0, text, "")
+    answer = called("write", "-", out, stdin=text)
+    yield f"write of {text!r}", (answer.status, content(out), answer.err), (0, data, "")
+    # What is shown is the canonical text, after a line of its own.
+    yield f"what write shows of {text!r}", answer.text().partition("\n")[2], text.decode()
+    assert reference.write_file(len(tasks), tasks, len(chains), [(len(chain), chain) for chain in chains], gap, bytes(698))[1].startswith(data)
+
+
+def process_both_ways(folder, some):
+    """The same by ./meshorchard, through files and through streams."""
+    asked = []
+    for i, (tasks, chains, gap) in enumerate(some):
+        data, text = b"".join(inputs.records(tasks, chains, gap)), canonical(tasks, chains, gap)
+        path, source = put(folder, f"{i}.schedule", data), put(folder, f"{i}.txt", text)
+        asked += [((["text", path],), text), ((["text", "-"], data), text), ((["write", source, "-"],), data), ((["write", "-", "-"], text), data)][2 * (i % 2):][:2]
+    for (given, right), answer in zip(asked, ran_all([given for given, _ in asked])):
+        # Beside bytes on standard output what they say is told on standard error.
+        yield f"./meshorchard {' '.join(given[0])}", (answer.status, answer.out, "task" in answer.err), (0, right, given[0][0] == "write")
+
+
+@group
+def both_ways(r, factor):
+    """canonical texts to files and back, and texts that are not canonical"""
+    counts, gaps = set(), set()
+    with tempfile.TemporaryDirectory() as folder:
+        for tasks, chains, gap in some_schedules(r, int(2002 * factor)):
+            counts.add((len(tasks), 0)), counts.add((0, len(chains))), gaps.add(gap)
+            yield from in_process_both_ways(folder, tasks, chains, gap)
+        for tasks, chains, gap in some_schedules(r, int(1002 * factor)):
+            gap = r.choice([0, gap])
+            text = not_canonical(r, tasks, chains, gap)
+            answer = called("write", "-", "-", stdin=text)
+            yield f"write of {text!r}", (answer.status, answer.out), (0, b"".join(inputs.records(tasks, chains, gap)))
+        yield from process_both_ways(folder, some_schedules(r, int(16 * factor)))
+    assert factor < 1 or gaps == set(range(inputs.MOST_GAP + 1)) and {(1, 0), (31, 0), (32, 0), (0, 1), (0, 4)} <= counts, "not every gap and every count"
+
+
+# ---- 3: wrong lines
+
+ONE = "task 1 period 4 duration 4 phase 0\n"
+TWO = ONE + "task 7 period 6 duration 6 phase 0\n"
+FULL = TWO + "chain 1 7\n"
+ALL = "".join(f"task {n} period 4 duration 4 phase 0\n" for n in range(1, 33))
+PERIOD, DURATION, PHASE, GAP_LIMIT, NUMBER_LIMIT = "1 to 1,000,000 ticks", "1 to 4,000,000 ticks", "0 to 1,000,000 ticks", "1,000 ticks", "1 to 65,535"
+
+
+def with_period(word):
+    return f"task 1 period {word} duration 4 phase 0\nchain 1\n"
+
+
+# A text, the line that is wrong, the word that is told (None where a word is missing) and a piece of what would be right.
+WRONG_WORDS = [
+    ("tsk 1 period 4 duration 4 phase 0\nchain 1\n", 1, "tsk", "task, chain or gap"), ("Task 1 period 4 duration 4 phase 0\nchain 1\n", 1, "Task", "task, chain or gap"),
+    ("task1 period 4 duration 4 phase 0\nchain 1\n", 1, "task1", "task, chain or gap"), (ONE + "chian 1\n", 2, "chian", "task, chain or gap"),
+    (ONE + "chain1\n", 2, "chain1", "task, chain or gap"),
+    (FULL + "gab 3\n", 4, "gab", "task, chain or gap"), (FULL + "end\n", 4, "end", "task, chain or gap"), ("// a comment\n" + FULL, 1, "//", "task, chain or gap"),
+    ("7\n" + FULL, 1, "7", "task, chain or gap"),
+    ("task\n", 1, None, "number of a task"), ("task 1\nchain 1\n", 1, None, "'period'"), ("task 1 period\nchain 1\n", 1, None, "a time"),
+    ("task 1 period 4\nchain 1\n", 1, None, "'duration'"),
+    ("task 1 period 4 duration\nchain 1\n", 1, None, "a time"), ("task 1 period 4 duration 4\nchain 1\n", 1, None, "'phase'"),
+    ("task 1 period 4 duration 4 phase\nchain 1\n", 1, None, "a time"),
+    ("task 1 period 4 duration 4 # phase 0\nchain 1\n", 1, None, "'phase'"), (ONE + "chain\n", 2, None, "number of a task"), (FULL + "gap\n", 4, None, "a time"),
+    ("task period 4 duration 4 phase 0\nchain 1\n", 1, "period", NUMBER_LIMIT), ("task 1 4 duration 4 phase 0\nchain 1\n", 1, "4", "'period'"),
+    ("task 1 period duration 4 phase 0\nchain 1\n", 1, "duration", PERIOD),
+    ("task 1 periode 4 duration 4 phase 0\nchain 1\n", 1, "periode", "'period'"), ("task 1 period 4 durations 4 phase 0\nchain 1\n", 1, "durations", "'duration'"),
+    ("task 1 period 4 duration 4 Phase 0\nchain 1\n", 1, "Phase", "'phase'"), ("task 1 duration 4 period 4 phase 0\nchain 1\n", 1, "duration", "'period'"),
+    ("task task 1 period 4 duration 4 phase 0\n", 1, "task", NUMBER_LIMIT),
+    ("task 1 period period 4 duration 4 phase 0\n", 1, "period", PERIOD), ("task 1 1 period 4 duration 4 phase 0\n", 1, "1", "'period'"),
+    ("task 1 period 4 4 duration 4 phase 0\n", 1, "4", "'duration'"),
+    ("task 1 period 4 duration 4 phase 0 5\nchain 1\n", 1, "5", "nothing"), ("task 1 period 4 duration 4 phase 0 phase 3\nchain 1\n", 1, "phase", "nothing"),
+    (FULL + "gap 3 5\n", 4, "5", "nothing"),
+    ("\ufeff\ufeff" + FULL, 1, "\\ufefftask", "task, chain or gap"),
+]
+WRONG_TURNS = [
+    ("", 1, None, "task 7 period"), ("\n# nothing\n\n", 4, None, "task 7 period"), (ONE, 2, None, "chain 7"), (TWO.rstrip(), 2, None, "chain 7"),
+    ("chain 1\n" + ONE, 1, "chain", "tasks"), ("gap 3\n" + FULL, 1, "gap", "chain"),
+    (ONE + "gap 3\nchain 1\n", 2, "gap", "chain"), (FULL + "task 9 period 4 duration 4 phase 0\n", 4, "task", "tasks stand before the chains"),
+    (FULL + "gap 3\nchain 1\n", 5, "chain", "nothing stands after the gap"),
+    (FULL + "gap 3\ngap 3\n", 5, "gap", "nothing stands after the gap"), (FULL + "gap 0\ngap 3\n", 5, "gap", "nothing stands after the gap"),
+    (FULL + "gap 3\n\n# x\ntask 9 period 4 duration 4 phase 0\n", 7, "task", "nothing stands after the gap"),
+    (ALL + "task 33 period 4 duration 4 phase 0\nchain 1\n", 33, "task", "1 to 32 tasks"), (FULL + "chain 1\n" * 4, 7, "chain", "1 to 4 chains"),
+    (ONE + "chain" + " 1" * 13 + "\n", 2, "1", "1 to 12 places"),
+    (ONE + "chain" + " 1" * 40 + "\n", 2, "1", "1 to 12 places"), (ONE + "chain" + " 1" * 12 + " 7\n", 2, "7", "1 to 12 places"),
+    (TWO + "chain 1 8\n", 3, "8", "1, 7"), (TWO + "chain 0\n", 3, "0", "1, 7"), (TWO + "chain 7\nchain 1\nchain 7 7 7 65536\n", 5, "65536", "1, 7"),
+    (TWO + "chain 2 3\n", 3, "2", "1, 7"),
+    (ONE + ONE + "chain 1\n", 2, "1", "rise"), (TWO + "task 6 period 4 duration 4 phase 0\nchain 1\n", 3, "6", "before is 7"),
+    (TWO + "task 1 period 4 duration 4 phase 0\nchain 1\n", 3, "1", "rise"),
+]
+WRONG_NUMBERS = [(with_period(word), 1, word, piece) for word, piece in (
+    ("0", PERIOD), ("1000001", PERIOD), ("1,000,001", PERIOD), ("-4", PERIOD), ("+4", PERIOD), ("0x10", PERIOD), ("1e3", PERIOD), ("four", PERIOD), ("٤", PERIOD),
+    ("４", PERIOD), ("4²", PERIOD), ("½s", PERIOD),
+    ("18446744073709551615", PERIOD), ("18446744073709551617", PERIOD), ("4294967300", PERIOD), ("9" * 40, PERIOD), ("1,0", "thousands"),
+    ("1_0", "thousands"), ("1,0000", "thousands"),
+    ("1000,000", "thousands"), ("1__000", "thousands"), ("1,,000", "thousands"), ("1,000_000", "thousands"), ("1_000,000", "thousands"), ("1,000,", "thousands"),
+    ("0,004", "thousands"), (",100", PERIOD), ("_100", PERIOD),
+    ("1'000", PERIOD), ("4min", "us, ms and s"), ("4ns", "us, ms and s"), ("4MS", "us, ms and s"), ("4S", "us, ms and s"), ("4µs", "us, ms and s"),
+    ("4msms", "us, ms and s"), ("4usms", "us, ms and s"), ("4ticks", "us, ms and s"),
+    ("4.5", "has a unit"), ("4.0", "has a unit"), ("1.000", "has a unit"), ("4.5us", "whole number of ticks"), ("0.0005ms", "whole number of ticks"), ("1.2345ms", "whole number of ticks"),
+    ("0.0000001s", "whole number of ticks"), (".5ms", PERIOD), ("5.ms", PERIOD),
+    ("1.2.3ms", PERIOD), ("1,5ms", "thousands"), ("1001ms", PERIOD), ("1.000001s", PERIOD), ("2s", PERIOD), ("0ms", PERIOD), ("-1ms", PERIOD), ("ms", PERIOD),
+    ("=4", PERIOD), ("4;", "us, ms and s"),
+)] + [
+    ("task 1 period 4 minutes duration 4 phase 0\n", 1, "minutes", "us, ms or s"), ("task 1 period 4ms ms duration 4 phase 0\n", 1, "4ms", "two units"),
+    ("task 1 period 4 ms ms duration 4 phase 0\n", 1, "ms", "'duration'"),
+    ("task 1 period 4 duration 4ms us phase 0\n", 1, "4ms", "two units"), ("task 1 period 1 000 duration 4 phase 0\n", 1, "000", "'duration'"),
+    ("task 1 period 4 duration 0 phase 0\n", 1, "0", DURATION),
+    ("task 1 period 4 duration 4000001 phase 0\n", 1, "4000001", DURATION), ("task 1 period 4 duration -1 phase 0\n", 1, "-1", DURATION),
+    ("task 1 period 4 duration 4.000001s phase 0\n", 1, "4.000001s", DURATION),
+    ("task 1 period 4 duration 4 phase 1000001\n", 1, "1000001", PHASE), ("task 1 period 4 duration 4 phase -1\n", 1, "-1", PHASE),
+    ("task 1 period 4 duration 4 phase 1.5\n", 1, "1.5", "has a unit"),
+    # A long word is told shortened.
+    (with_period("9" * 5000), 1, "9" * 40 + "..", PERIOD),
+    # A sign that only looks like a space or an end of a line is a part of its word.
+    (TWO + "chain 1\u20287\n", 3, "1\\u20287", NUMBER_LIMIT), (TWO + "chain 1\x0b7\n", 3, "1\\x0b7", NUMBER_LIMIT),
+    ("task 0 period 4 duration 4 phase 0\n", 1, "0", NUMBER_LIMIT), ("task 65536 period 4 duration 4 phase 0\n", 1, "65536", NUMBER_LIMIT),
+    ("task 65,536 period 4 duration 4 phase 0\n", 1, "65,536", NUMBER_LIMIT),
+    ("task 4294967297 period 4 duration 4 phase 0\n", 1, "4294967297", NUMBER_LIMIT), ("task 1ms period 4 duration 4 phase 0\n", 1, "1ms", NUMBER_LIMIT),
+    ("task 1.0 period 4 duration 4 phase 0\n", 1, "1.0", NUMBER_LIMIT),
+    ("task -1 period 4 duration 4 phase 0\n", 1, "-1", NUMBER_LIMIT), ("task ١ period 4 duration 4 phase 0\n", 1, "١", NUMBER_LIMIT),
+    (TWO + "chain 1,7\n", 3, "1,7", "thousands"), (TWO + "chain 1, 7\n", 3, "1,", "thousands"),
+    (TWO + "chain 1 -> 7\n", 3, "->", NUMBER_LIMIT), (TWO + "chain 1 7us\n", 3, "7us", NUMBER_LIMIT), (TWO + "chain 1 us\n", 3, "us", NUMBER_LIMIT),
+    (TWO + "chain 1 -7\n", 3, "-7", NUMBER_LIMIT),
+    (TWO + "chain 18446744073709551617\n", 3, "18446744073709551617", NUMBER_LIMIT), (FULL + "gap 1001\n", 4, "1001", GAP_LIMIT),
+    (FULL + "gap 1.001ms\n", 4, "1.001ms", GAP_LIMIT), (FULL + "gap -1\n", 4, "-1", GAP_LIMIT),
+    (FULL + "gap 0.5us\n", 4, "0.5us", "whole number of ticks"), (FULL + "gap 65537\n", 4, "65537", GAP_LIMIT), (FULL + "gap x\n", 4, "x", GAP_LIMIT),
+    (FULL + "gap 1 us us\n", 4, "us", "nothing"), (FULL + "gap 1us us\n", 4, "1us", "two units"),
+    # A unit was meant, and only a unit may follow.
+    (FULL + "gap 3 min\n", 4, "min", "us, ms"), ("task 1 period 4 duration 4 phase 5 min\nchain 1\n", 1, "min", "us, ms"),
+]
+# Bytes that are no text. Whether a word is told is left open: where there is no text there is no word.
+NO_TEXT = [
+    (content(LASER), 1, None, "schedule file"), (b"\n\n" + content(LASER), 3, None, "schedule file"), (bytes(20), 1, None, "text"),
+    (ONE.encode() + b"chain \xff\n", 2, None, "UTF-8"),
+    (b"# caf\xe9\n" + FULL.encode(), 1, None, "UTF-8"), (FULL.encode() + b"# \xed\xa0\x80\n", 4, None, "UTF-8"), (FULL.encode() + b"# \xc3", 4, None, "UTF-8"),
+    (b"\xff\xfe" + ONE.encode(), 1, None, "UTF-8"), (ONE.encode("utf-16"), 1, None, "text"),
+]
+
+
+def told(err, word):
+    """The line, whether the word is told as wrong, and the rest."""
+    found = re.match(r"[^\n]*, line (\d+): ([^\n]*)\n$", err)
+    if not found:
+        return err
+    quoted = {f"'{word}' is wrong", f'"{word}" is wrong'}
+    return int(found[1]), word is None or any(found[2].startswith(each) for each in quoted), found[2]
+
+
+def wrong_line_case(folder, text, line, word, piece):
+    """The wrong line told; nothing printed, no file made, an existing one kept."""
+    data = text if isinstance(text, bytes) else text.encode()
+    kept, new = put(folder, "kept", b"as it was"), os.path.join(folder, "new")
+    answers = [called("write", "-", out, stdin=data) for out in (kept, new, "-")]
+    found = told(answers[0].err, word)
+    right = found if isinstance(found, str) else (*found[:2], piece in found[2])
+    written = {(answer.status, answer.out, answer.err) for answer in answers}, content(kept), content(new)
+    return f"{data[-160:]!r} says {answers[0].err[:300]!r}", (right, *written), ((line, True, True), {(1, b"", answers[0].err)}, b"as it was", None)
+
+
+@group
+def wrong_lines(r, factor):
+    """wrong lines: the line, the word and what would be right are told, and nothing is written"""
+    table = WRONG_WORDS + WRONG_TURNS + WRONG_NUMBERS + NO_TEXT
+    assert len({(text, line) for text, line, *_ in table}) == len(table) >= 60
+    with tempfile.TemporaryDirectory() as folder:
+        for entry in table:
+            yield wrong_line_case(folder, *entry)
+        # Lines before the wrong one, comments and other ends of lines count.
+        for text, line, word, piece in r.sample(WRONG_WORDS[:-1] + WRONG_TURNS[4:] + WRONG_NUMBERS, 60):
+            more = r.randint(1, 9)
+            end = r.choice(["\n", "\r\n"])
+            yield wrong_line_case(folder, (r.choice(["# a comment\n", "\n", " \t\n"]) * more + text).replace("\n", end), line + more, word, piece)
+        some = [(put(folder, f"{i}.txt", text if isinstance(text, bytes) else text.encode()), line) for i, (text, line, _, _) in enumerate(r.sample(table, 12))]
+        kept = put(folder, "kept", b"as it was")
+        for (path, line), answer in zip(some, ran_all([(["write", path, kept],) for path, _ in some])):
+            yield f"./meshorchard write {path}", (answer.status, answer.out, answer.err.startswith(f"{path}, line {line}: "), content(kept)), (1, b"", True, b"as it was")
+
+
+# ---- 4: the limits
+
+NAMES = ("number", "period", "duration", "phase")
+LIMIT_WORDS = dict(zip(NAMES, (NUMBER_LIMIT, PERIOD, DURATION, PHASE)))
+# What `explain` must say of the limits of a refusal.
+EXPLAINED = {
+    2: ("18 bytes", "1 to 12 places", "the gap 6", "the end 4"), 4: ("1 to 32 tasks", "1 to 4 chains"), 5: ("1 to 65,535", "1 to 1,000,000", "1 to 4,000,000", "0 to 1,000,000", "1,000 ticks"),
+    7: ("60,000,000",), 8: ("1 to 32", "1 to 4", "1 to 12"), 11: ("698", "1,024"), 13: ("1,000,000,000,000",), 14: ("1,000,000,000", "60,011,000"), 15: ("1 to 100",),
+}
+
+
+def limit_texts():
+    """A text with a value at each limit and one beyond, whether it is accepted, and where it is refused the line, the word and the limit in words."""
+    for field, name in enumerate(NAMES):
+        low, high = inputs.LIMITS[field]
+        for value in (low - 1, low, high, high + 1):
+            for first in (True, False):
+                values = [9, 4, 4, 0]
+                values[field] = value
+                line = "task %d period %d duration %d phase %d\n" % tuple(values)
+                # As the second task its number must be above that of the first.
+                if value >= 0 and (first or field or value > 1):
+                    number_of = values[0] if field == 0 else 9
+                    yield ("" if first else ONE) + line + f"chain {number_of}\n", low <= value <= high, 1 if first else 2, str(value), LIMIT_WORDS[name]
+    for value in (0, 1, inputs.MOST_GAP, inputs.MOST_GAP + 1):
+        yield FULL + f"gap {value}\n", value <= inputs.MOST_GAP, 4, str(value), GAP_LIMIT
+    for count in (1, inputs.MOST_TASKS, inputs.MOST_TASKS + 1):
+        yield "".join(f"task {n} period 4 duration 4 phase 0\n" for n in range(1, count + 1)) + "chain 1\n", count <= inputs.MOST_TASKS, 33, "task", "1 to 32 tasks"
+    for count in (1, inputs.MOST_CHAINS, inputs.MOST_CHAINS + 1):
+        yield ONE + "chain 1\n" * count, count <= inputs.MOST_CHAINS, 6, "chain", "1 to 4 chains"
+    for count in (1, inputs.MOST_PLACES, inputs.MOST_PLACES + 1):
+        yield ONE + "chain" + " 1" * count + "\n", count <= inputs.MOST_PLACES, 2, "1", "1 to 12 places"
+    for before, line, after, name in (("1s", "1 s", "1.000001s", "period"), ("4s", "4000ms", "4000.001ms", "duration"), ("1000 ms", "1s", "1_000_001us", "phase")):
+        for word in (before, line, after):
+            values = {"period": "4", "duration": "4", "phase": "0", name: word}
+            yield "task 1 " + " ".join(f"{key} {value}" for key, value in values.items()) + "\nchain 1\n", word != after, 1, word, LIMIT_WORDS[name]
+
+
+def schedule_of_text(text):
+    """The schedule that a text of limit_texts means: what the calls are asked about, whatever its values."""
+    rows = [line.replace("_", "").split() for line in text.splitlines()]
+    tasks = [tuple(int(row[i]) for i in (1, 3, 5, 7)) for row in rows if row[0] == "task"]
+    return Schedule.of(tasks, [list(map(int, row[1:])) for row in rows if row[0] == "chain"], max([int(row[1]) for row in rows if row[0] == "gap"], default=0))
+
+
+@group
+def at_limits(r, factor):
+    """each limit: accepted at it, refused one beyond and told at its line, by the command as by the call"""
+    for text, accepted, line, word, piece in limit_texts():
+        answer = called("write", "-", "-", stdin=text.encode())
+        if accepted:
+            read = reference.read_file(answer.out)
+            yield f"write of {text!r}", (answer.status, read[0], canonical(*read[1:]).decode() == answer.err.partition("\n")[2] if read[0] == "ok" else read), (0, "ok", True)
+        else:
+            found = told(answer.err, word)
+            yield f"write of {text!r}: {answer.err}", (answer.status, *(found[:2] if isinstance(found, tuple) else [found]), piece in answer.err), (1, line, True, True)
+        if not re.search(r"[0-9] ?(us|ms|s)\b", text):
+            yield f"mo_write_file of {text!r}", proved.answered(calls.write_file, schedule_of_text(text), bytearray(698))[0], "ok" if accepted else "refused"
+    # The words of explain have the limits of the header too.
+    for refusal, pieces in EXPLAINED.items():
+        yield f"explain {refusal}", [piece for piece in pieces if not re.search(rf"(?<![0-9,]){piece}(?![0-9]|,[0-9])", called("explain", refusal).text())], []
+
+
+# ---- 5: refused files in words
+
+KINDS = {1: "task", 2: "chain", 3: "end", 4: "gap"}
+RIGHT_LENGTHS = {1: "18", 2: "1 to 12 places", 3: "4", 4: "6"}
+
+
+def plain(message):
+    """A message without the separators in its numbers, which may stand there or not."""
+    return re.sub(r"(?<=[0-9]),(?=[0-9]{3}(?![0-9]))", "", message)
+
+
+def walked(data, offset):
+    """The records before an offset: how many, the tasks as (number, T, D, F), the number of chains and of gaps, whether the end was there."""
+    at, count, tasks, seen = 0, 0, [], collections.Counter()
+    while at < offset:
+        length, kind = struct.unpack_from("<HH", data, at)
+        if kind == 1:
+            tasks.append(struct.unpack_from("<HIII", data, at + 4))
+        at, count = at + length, count + 1
+        seen[kind] += 1
+    return count, tasks, seen
+
+
+def turn_pieces(data, offset, tasks, seen, kind):
+    """What must be said of a record out of turn."""
+    if seen[3]:
+        left = len(data) - offset
+        return "after the end", [f"{left:,} more byte", "end"]
+    if kind == 1:
+        return ("33rd task", ["33", "1 to 32 tasks"]) if not seen[2] else ("task after a chain", ["task after a chain"])
+    if kind == 2:
+        if not tasks:
+            return "chain first", ["chain before the first task"]
+        return ("chain after the gap", ["chain after the gap"]) if seen[4] else ("fifth chain", ["chain 5", "1 to 4 chains"])
+    if kind == 4:
+        return ("second gap", ["second gap"]) if seen[4] else ("gap early", ["gap before the first chain"])
+    return "end early", ["end before the first chain"]
+
+
+def outside(data, offset, tasks):
+    """The values of the task there that are outside their limits, each with its limit in words."""
+    values = struct.unpack_from("<HIII", data, offset + 4)
+    found = {name: value for field, (name, value) in enumerate(zip(NAMES, values)) if not inputs.LIMITS[field][0] <= value <= inputs.LIMITS[field][1]}
+    if tasks and 0 < values[0] <= tasks[-1][0]:
+        found["rising"] = values[0]
+    return values, found
+
+
+def outside_pieces(data, offset, tasks, message):
+    """What must be said of a value: one that is outside, with its limit. Where there are several the message has its choice."""
+    values, found = outside(data, offset, tasks)
+    choices = []
+    for name, value in found.items():
+        if name == "rising":
+            choices.append([f"task {value:,}", f"the number {tasks[-1][0]:,}", "rise"])
+        elif name == "number":
+            choices.append(["number 0", NUMBER_LIMIT])
+        else:
+            choices.append([f"task {values[0]:,}", f"{name} is {value:,};", LIMIT_WORDS[name]])
+    fits = [pieces for pieces in choices if all(plain(piece) in plain(message) for piece in pieces)]
+    return "and ".join(sorted(found)), fits[0] if fits else choices[0]
+
+
+def pieces_of(data, refusal, offset, message):
+    """The kind of a fault and the pieces that its explanation must have, from the bytes alone."""
+    count, tasks, seen = walked(data, offset)
+    left = len(data) - offset
+    record = [f"record {count + 1:,}", f"at byte {offset:,}"]
+    if refusal == 1 and left < 4:
+        # What is missing is a chain where there is none yet; an end there would be refused.
+        missing = ["task"] if not count else ["end"] if seen[2] else ["chain"]
+        amount = ["empty"] if not data else [f"only {left} byte"] if left else ["the file ends"]
+        return f"{'some' if left else 'no'} bytes left{' without a chain' if count and not seen[2] else ''}", amount + missing
+    length, kind = struct.unpack_from("<HH", data, offset) if left >= 4 else (0, 0)
+    if refusal == 1:
+        return "length past the file", [*record, f"{length:,} bytes", f"only {left:,}"]
+    if refusal == 2 and length < 4:
+        return "length below 4", [*record, f"{length} byte", "4"]
+    if refusal == 2:
+        return f"length of kind {kind}", [*record, f"kind {kind}", KINDS[kind], f"{length:,} bytes", RIGHT_LENGTHS[kind]]
+    if refusal == 3:
+        return "kind", [*record, f"of kind {kind:,};", "1 for a task", "2 for a chain", "4 for the gap", "3 for the end"]
+    if refusal == 4:
+        what, pieces = turn_pieces(data, offset, tasks, seen, kind)
+        return what, pieces + ([f"at byte {offset:,}"] if seen[3] else record)
+    if refusal == 5 and kind == 4:
+        return "gap", [*record, f"gap of {struct.unpack_from('<H', data, offset + 4)[0]:,};", GAP_LIMIT]
+    if refusal == 5:
+        what, pieces = outside_pieces(data, offset, tasks, message)
+        return what, pieces + record
+    known = [task[0] for task in tasks]
+    numbers = struct.unpack_from(f"<{(length - 4) // 2}H", data, offset + 4)
+    place = next(i for i, each in enumerate(numbers) if each not in known)
+    return "unknown", [*record, f"chain {seen[2] + 1}", f"place {place + 1} names task {numbers[place]};", ", ".join(map(str, known))]
+
+
+def some_of(r, files, most):
+    """So many of the files, drawn while they are made."""
+    kept = []
+    for i, data in enumerate(files):
+        if i < most:
+            kept.append(data)
+        elif r.random() < most / (i + 1):
+            kept[r.randrange(most)] = data
+    return kept
+
+
+def damaged_files(r, factor):
+    """Damaged files of every kind of damage."""
+    for _ in range(max(1, int(20 * factor))):
+        tasks, chains = inputs.schedule(r, r.choice([1, 2, 3, 5]), inputs.some_sizes(r, r.randint(1, 4)))
+        gap = inputs.file_gap(r)
+        for damage in inputs.RECORD_DAMAGES:
+            yield from some_of(r, damage(r, inputs.records(tasks, chains, gap)), 40)
+        yield from some_of(r, inputs.edge_files(r, tasks, chains, gap), 60)
+        yield from itertools.chain(*[inputs.unknown_files(r, tasks, chains, c) for c in range(len(chains))])
+        yield from inputs.many_tasks(r, 33)
+        yield from [make(r) for make in (inputs.random_bytes, inputs.random_records) for _ in range(30)]
+    for files, most in ((inputs.faults_of_order(r), 800), (inputs.gap_files(r), 500), (inputs.turns(r, (1, 2, 3, 4), 6), 500)):
+        yield from some_of(r, files, int(most * factor))
+
+
+@group
+def refused_in_words(r, factor):
+    """refused files: the number, the place, the record and the values that check names"""
+    kinds = collections.Counter()
+    for data in damaged_files(r, factor):
+        read = reference.read_file(data)
+        if read[0] == "ok":
+            continue
+        answer = called("check", "-", stdin=data)
+        begins = f"standard input is refused with {read[1]} at {read[2]:,}: "
+        what, pieces = pieces_of(data, read[1], read[2], answer.err)
+        kinds[read[1], what] += 1
+        # Not as a part of a longer number or word.
+        said = plain(answer.err.partition(": ")[2])
+        missing = [piece for piece in map(plain, pieces) if not re.search(rf"(?<![0-9a-z]){re.escape(piece)}(?![0-9])", said)]
+        yield f"{data[:700].hex()}: {answer.err!r}, without", (answer.status, answer.out, answer.err.startswith(begins), missing), (1, b"", True, [])
+    assert len(kinds) >= 27 and {number for number, _ in kinds} == {1, 2, 3, 4, 5, 6}, sorted(kinds)
+
+
+# ---- 6: the package
+
+CHAIN_A = Chain.of([(4, 4, 0), (6, 6, 0)])
+SCHEDULE_A = Schedule.of([(1, 4, 4, 0), (2, 6, 6, 0)], [[1, 2], [2]])
+TABLE_A = Table([0, 8], [18, 16], 2, 12)
+FILE_A = b"".join(inputs.records([(1, 4, 4, 0), (2, 6, 6, 0)], [[1, 2], [2]], 0))
+# Each call of the header with chain A of the specification: its arguments, and what README, header or reference say that it answers.
+ANSWERS = {
+    "read_table": ((TABLE_A, 7), 11), "greatest": ((TABLE_A,), 18), "low": ((TABLE_A,), 10), "mean": ((TABLE_A,), (336, 24)), "throughput": ((TABLE_A,), (2, 12)),
+    "exceedance": ((TABLE_A, 15), (3, False)),
+    "check": ((CHAIN_A,), 12), "warm_up": ((CHAIN_A,), ((0, 1), 0, 12)), "delay": ((CHAIN_A, 0), 18), "age": ((CHAIN_A, 12), 12),
+    "make_table": ((CHAIN_A, 1, array("Q", bytes(24)), array("Q", bytes(24))), (2, 0, 12, 3)),
+    "windows": ((CHAIN_A, 13, 3), reference.windows([(4, 4, 0), (6, 6, 0)], 0, 13, 3)[1:]), "read_file": ((FILE_A,), None),
+    "write_file": ((SCHEDULE_A, bytearray(698)), len(FILE_A)), "chain_of_schedule": ((SCHEDULE_A, 1), None), "bookings": ((SCHEDULE_A, 1, 2, 0), None),
+    "report": ((FILE_A, bytearray(92000)), len(reference.report(FILE_A))),
+}
+# What each refusal comes from: a call and its arguments, with the place.
+REFUSALS = {
+    7: (calls.check, (Chain.of([(999983, 1, 0), (999979, 1, 0)]),), 0), 8: (calls.check, (Chain([], 0),), 0),
+    9: (calls.make_table, (CHAIN_A, 3, array("Q", bytes(8)), array("Q", bytes(8))), 0),
+    10: (calls.make_table, (CHAIN_A, 1, array("Q", bytes(8)), array("Q", bytes(16))), 0),
+    11: (calls.make_table, (CHAIN_A, 1, array("Q", bytes(8)), array("Q", bytes(8))), 0), 12: (calls.age, (CHAIN_A, 11), 0),
+    13: (calls.delay, (CHAIN_A, 10**12 + 1), 0), 14: (calls.greatest, (TABLE_A._replace(hyperperiod=0),), 0), 15: (calls.windows, (CHAIN_A, 5, 101), 0),
+    16: (calls.chain_of_schedule, (SCHEDULE_A, 3), 0),
+    5: (calls.check, (Chain.of([(4, 4, 0), (0, 6, 0)]),), 2), 6: (calls.write_file, (Schedule.of([(1, 4, 4, 0)], [[1, 1, 9]]), bytearray(698)), 3),
+    1: (calls.read_file, (FILE_A[:-1],), len(FILE_A) - 4), 2: (calls.read_file, (b"\3\0\1\0",), 0), 3: (calls.read_file, (b"\4\0\5\0",), 0),
+    4: (calls.read_file, (FILE_A + b"x",), len(FILE_A)),
+}
+
+
+def shape(found):
+    """An answer as plain numbers, with None for those that are looked at elsewhere."""
+    return dataclasses.astuple(found) if dataclasses.is_dataclass(found) else None if isinstance(found, (Chain, Schedule)) else found
+
+
+def declared_cases():
+    """Every call of the header is a typed function with the answer that it should have."""
+    with open(os.path.join(TOP, "include", "meshorchard.h"), encoding="utf-8") as header:
+        names = re.findall(r"^\w+ mo_(\w+)\(", re.sub(r"/\*.*?\*/", "", header.read(), flags=re.DOTALL), re.MULTILINE)
+    assert len(names) == len(set(names)) == len(ANSWERS) == 17, names
+    for name in names:
+        function = getattr(calls, name, None)
+        typed = callable(function) and all(each.annotation is not each.empty for each in inspect.signature(function).parameters.values())
+        yield f"calls.{name} is a typed function", typed, True
+        arguments, right = ANSWERS[name]
+        found = function(*arguments)
+        yield f"calls.{name}", shape(found) if name != "bookings" else found.later == 18 and dataclasses.is_dataclass(found), right if name != "bookings" else True
+        yield f"calls.{name} answers what its type says", isinstance(found, eval(function.__annotations__["return"], vars(calls))), True
+    yield "calls.read_file", (calls.read_file(FILE_A).task_list(), calls.read_file(FILE_A).chain_list()), ([(1, 4, 4, 0), (2, 6, 6, 0)], [[1, 2], [2]])
+
+
+def refusal_cases():
+    """Every refusal is the exception, with its number, its place and words."""
+    for refusal, (call, arguments, place) in REFUSALS.items():
+        try:
+            found = call(*arguments)
+        except Refused as refused:
+            words = refused.words
+            found = refused.number, refused.place, isinstance(words, str) and len(words) > 20, words in str(refused), str(refusal) in str(refused)
+        yield f"refusal {refusal} of calls.{call.__name__}", found, (refusal, place, True, True, True)
+    yield "a refusal for each number of the header", sorted(REFUSALS), list(range(1, 17))
+
+
+def beyond():
+    """Calls with numbers that no call can be given, each value wherever a number may stand."""
+    for value in (-1, 2**64, 2**64 + 1, -2**63, 2**65 + 12):
+        asked = [
+            (calls.delay, CHAIN_A, value), (calls.age, CHAIN_A, value), (calls.windows, CHAIN_A, value, 3), (calls.windows, CHAIN_A, 5, value),
+            (calls.read_table, TABLE_A, value), (calls.exceedance, TABLE_A, value),
+            (calls.make_table, CHAIN_A, value, array("Q", bytes(8)), array("Q", bytes(8))), (calls.chain_of_schedule, SCHEDULE_A, value),
+            (calls.bookings, SCHEDULE_A, value, 1, 5), (calls.bookings, SCHEDULE_A, 1, value, 5),
+            (calls.bookings, SCHEDULE_A, 1, 1, value), (calls.check, CHAIN_A._replace(gap=value)), (calls.check, CHAIN_A._replace(places=value)),
+            (calls.check, Chain.of([(4, 4, value)])), (calls.greatest, TABLE_A._replace(anchors=value)),
+            (calls.greatest, TABLE_A._replace(hyperperiod=value)), (calls.greatest, TABLE_A._replace(starts=[0, value])),
+            (calls.write_file, SCHEDULE_A._replace(gap=value), bytearray(698)), (calls.write_file, SCHEDULE_A._replace(count=value), bytearray(698)),
+            (calls.write_file, SCHEDULE_A._replace(lengths=(value, None, None)), bytearray(698)),
+            (calls.write_file, SCHEDULE_A._replace(chain_count=value), bytearray(698)), (calls.write_file, Schedule.of([(1, 4, value, 0)], [[1]]), bytearray(698)),
+            (calls.write_file, Schedule.of([(1, 4, 4, 0)], [[value]]), bytearray(698)),
+        ]
+        yield from [(value, *each) for each in asked]
+    # Lists that are lent as they are: their entries must be of the kind that the calls read.
+    for kind, value in (("q", -1), ("q", -2**63), ("d", 0.5)):
+        lent = array(kind, [4, 4, value])
+        yield from [(f"{value} in an array of kind {kind}", calls.check, Chain(numbers, 1)) for numbers in (lent, memoryview(lent))]
+
+
+def beyond_cases():
+    """Such numbers are an error, and no other number."""
+    for value, call, *arguments in beyond():
+        try:
+            found = call(*arguments)
+        except (ValueError, OverflowError, TypeError):
+            found = "an error"
+        except Refused as refused:
+            found = str(refused)
+        yield f"calls.{call.__name__} with {value}", found, "an error"
+
+
+def library_cases(folder):
+    """A shared object that is missing, or is none, is told with the way to make it; what needs none works without."""
+    no_object, other = put(folder, "no-object.so", b"this is no shared object"), os.path.join(folder, "missing.so")
+    # Neither the shared object nor the crates from which it is made.
+    bare = shutil.copytree(os.path.join(TOP, "host"), os.path.join(folder, "bare", "host"), ignore=shutil.ignore_patterns("__pycache__"))
+    alone = subprocess.run([sys.executable, bare, "check", LASER], env=surroundings(), capture_output=True, text=True)
+    yield "the package without a shared object", (alone.returncode, alone.stdout, "host/library" in alone.stderr, "Traceback" in alone.stderr), (2, "", True, False)
+    named = [(path, arguments) for path in (other, no_object, folder, "/proc/self/exe") for arguments in (["check", LASER], ["write", LASER_TEXT, os.path.join(folder, "out")])]
+    for (path, arguments), answer in zip(named, ran_all([(arguments, b"", {"env": surroundings(MESHORCHARD_LIBRARY=path)}) for path, arguments in named])):
+        told_so = path in answer.err and answer.err.count("\n") == 1
+        yield f"{arguments[0]} with MESHORCHARD_LIBRARY={path}: {answer.err}", (answer.status, answer.out, told_so, content(os.path.join(folder, "out"))), (2, b"", True, None)
+    without = [["explain", "5"], ["--help"], ["check", "--help"]]
+    for arguments, answer in zip(without, ran_all([(arguments, b"", {"env": surroundings(MESHORCHARD_LIBRARY=other)}) for arguments in without])):
+        yield f"{arguments} without a shared object", (answer.status, bool(answer.out), answer.err), (0, True, "")
+
+
+@group
+def package(r, factor):
+    """the package: every call, every refusal, numbers beyond 64 bits, a missing shared object, Python 3.9"""
+    yield from declared_cases()
+    yield from refusal_cases()
+    yield from beyond_cases()
+    with tempfile.TemporaryDirectory() as folder:
+        yield from library_cases(folder)
+    sources = glob.glob(os.path.join(TOP, "host", "**", "*.py"), recursive=True)
+    assert len(sources) >= 5
+    for path in sources:
+        with open(path, encoding="utf-8") as source:
+            held = source.read()
+        try:
+            ast.parse(held, path, feature_version=(3, 9))
+            found = None
+        except SyntaxError as fault:
+            found = str(fault)
+        yield f"{path} as Python 3.9", found, None
+
+
+# ---- 7: streams and statuses
+
+def stream_cases(folder):
+    """`-` for a file, in and out, gives what the file's name gives."""
+    out = os.path.join(folder, "out")
+    by_name = [arguments_for(word, LASER, "-") for word in ON_FILES]
+    by_stream = [arguments_for(word, "-", "-") for word in ON_FILES]
+    answers = ran_all([(arguments,) for arguments in by_name] + [(arguments, content(LASER)) for arguments in by_stream])
+    for word, one, two in zip(ON_FILES, answers, answers[len(by_name):]):
+        # Only the name may differ; in a picture it is the title.
+        same = [answer.text().replace("standard input", "NAME").replace(LASER, "NAME").replace("laser", "NAME") for answer in (one, two)]
+        yield f"{word} -", (two.status, two.err, same[1], bool(two.out)), (0, "", same[0], True)
+        called(*arguments_for(word, LASER, out))
+        if word in ("curve", "page"):
+            yield f"{word} -o -", one.out, content(out)
+    for source, stdin in ((LASER_TEXT, b""), ("-", content(LASER_TEXT))):
+        answer = ran(["write", source, "-"], stdin)
+        yield f"write {source} -", (answer.status, answer.out, "task 10 period 2500" in answer.err), (0, content(LASER), True)
+    answer = ran(["write", "-", out], content(LASER_TEXT))
+    yield "write - FILE", (answer.status, content(out), answer.err), (0, content(LASER), "")
+
+
+def printing(out):
+    """Every command as it prints on standard output."""
+    return [arguments_for(word, LASER, "-") for word in ON_FILES] + [["write", LASER_TEXT, "-"], ["write", LASER_TEXT, out], ["explain", "5"], ["--help"], ["check", "--help"]]
+
+
+def unwritable_cases(folder):
+    """Standard output that is full, closed or has no reader; files that cannot be written."""
+    out = os.path.join(folder, "out")
+    reader, gone = os.pipe()
+    os.close(reader)
+    with open("/dev/full", "wb") as full:
+        for name, how in (("full", {"stdout": full}), ("without a reader", {"stdout": gone}), ("closed", {"preexec_fn": functools.partial(os.close, 1)})):
+            some = printing(out) if name == "full" else [["check", LASER], ["text", LASER], ["page", LASER, "-o", "-"], ["write", LASER_TEXT, "-"]]
+            for arguments, answer in zip(some, ran_all([(arguments, b"", how) for arguments in some])):
+                found = answer.status, "standard output" in answer.err, "Traceback" in answer.err
+                yield f"{arguments} on a standard output that is {name}: {answer.err[-200:]}", found, (2, True, False)
+    os.close(gone)
+    for path in ("/dev/full", folder, os.path.join(folder, "missing", "out")):
+        for arguments in (["write", LASER_TEXT, path], ["curve", LASER, "-o", path], ["page", LASER, "-o", path]):
+            answer = called(*arguments)
+            yield f"{arguments}", (answer.status, answer.out, path in answer.err and "cannot be written" in answer.err, "Traceback" in answer.err), (2, b"", True, False)
+
+
+def unreadable_cases():
+    """Standard input that is closed or a folder."""
+    place = os.open(TOP, os.O_RDONLY)
+    for name, how in (("closed", {"stdin": None, "preexec_fn": functools.partial(os.close, 0)}), ("a folder", {"stdin": place})):
+        for arguments in (["check", "-"], ["write", "-", "-"]):
+            answer = ran(arguments, **how)
+            found = answer.status, answer.out, "standard input" in answer.err, "Traceback" in answer.err
+            yield f"{arguments} on a standard input that is {name}: {answer.err[-200:]}", found, (2, b"", True, False)
+    os.close(place)
+
+
+def same_file_cases(folder):
+    """An output that is the input, by whatever name: status 2, and the input is kept."""
+    text, data = content(LASER_TEXT), content(LASER)
+    for name, held, form in (("same.txt", text, ["write", None, None]), ("same.schedule", data, ["curve", None, "-o", None]), ("same.schedule", data, ["page", None, "-o", None])):
+        path = put(folder, name, held)
+        hard, soft = os.path.join(folder, f"{form[0]}-hard"), os.path.join(folder, f"{form[0]}-soft")
+        os.link(path, hard)
+        os.symlink(path, soft)
+        for other in (path, hard, soft, os.path.join(folder, ".", name), os.path.relpath(path)):
+            names = iter((path, other))
+            answer = called(*[next(names) if word is None else word for word in form])
+            yield f"{form[0]} from {path} to {other}", (answer.status, answer.out, content(path), other in answer.err), (2, b"", held, True)
+
+
+def redirected_cases(folder):
+    """The same where the input is a redirected standard input."""
+    for name, held, arguments in (("same.txt", content(LASER_TEXT), ["write", "-"]), ("same.schedule", content(LASER), ["page", "-", "-o"])):
+        path = put(folder, name, held)
+        with open(path, "rb") as stream:
+            answer = ran([*arguments, path], stdin=stream)
+        yield f"{' '.join(arguments)} {path} <{path}", (answer.status, answer.out, content(path) == held), (2, b"", True)
+
+
+def elsewhere_cases(folder):
+    """Run from another folder, whatever Python files lie there."""
+    for name in ("meshorchard.py", "fractions.py", "struct.py", "text.py"):
+        strange = os.path.join(folder, name[:-3])
+        os.mkdir(strange)
+        put(strange, name, b"raise SystemExit('a file of the current folder was run')\n")
+        yield f"check in a folder with a file {name}", ran(["check", LASER], cwd=strange)[::2], (0, "")
+
+
+def example_cases(folder):
+    """Each command's help has an example, the same as in the help of all, whole in one line, which runs."""
+    os.symlink(os.path.join(TOP, "examples"), os.path.join(folder, "examples"))
+    os.symlink(PROGRAM, os.path.join(folder, "meshorchard"))
+    words = ["write", *ON_FILES, "explain"]
+    general, *each = ran_all([(["--help"],)] + [([word, "--help"],) for word in words])
+    shown = re.findall(r"^ +(\./meshorchard \w.*)$", general.text(), re.MULTILINE)
+    yield "the commands with an example in --help", sorted(line.split()[1] for line in shown), sorted(words)
+    for word, answer in zip(words, each):
+        found = re.findall(rf"\./meshorchard {word} [^-\[].*", answer.text())
+        yield f"the example of {word} --help", (answer.status, found), (0, [line for line in shown if line.split()[1] == word])
+    with concurrent.futures.ThreadPoolExecutor(2) as workers:
+        done = workers.map(lambda line: subprocess.run(line, shell=True, cwd=folder, env=surroundings(), capture_output=True), shown)
+        for line, found in zip(shown, done):
+            yield line, (found.returncode, found.stderr), (0, b"")
+
+
+def name_cases(folder):
+    """A file whose name is no UTF-8, or has a sign of HTML in it, is as good as another."""
+    for name in (b"\xff.schedule", b"a<b>&'\".schedule", "größe 1.schedule".encode()):
+        path = os.fsdecode(os.path.join(os.fsencode(folder), name))
+        shutil.copyfile(LASER, path)
+        for word in ON_FILES:
+            out = os.path.join(folder, "out")
+            answer = called(*arguments_for(word, path, out))
+            yield f"{word} of a file named {name}: {answer.err[-200:]}", (answer.status, "Traceback" in answer.err), (0, False)
+            if word == "curve" and answer.status == 0:
+                yield f"{word} of a file named {name}", picture_faults(content(out)), None
+
+
+@group
+def streams(r, factor):
+    """streams, outputs that cannot be written, an output that is the input, examples of --help"""
+    for part in (stream_cases, unwritable_cases, same_file_cases, redirected_cases, elsewhere_cases, example_cases, name_cases):
+        with tempfile.TemporaryDirectory() as folder:
+            yield from part(folder)
+    yield from unreadable_cases()
+
+
+def shortened(value):
+    said = repr(value)
+    return said if len(said) <= 500 else f"{said[:240]} .. {said[-240:]}"
+
+
+def main():
+    parser = argparse.ArgumentParser()
+    parser.add_argument("--count", type=float, default=1.0, help="how much longer than usual")
+    parser.add_argument("--seed", type=int, default=20261116)
+    chosen = parser.parse_args()
+    reports.build()
+    proved.build()
+    print(f"./meshorchard and the package against the reference, seed {chosen.seed}, count {chosen.count}")
+    passed = failed = cases = 0
+    for run in GROUPS:
+        began, made, wrong, broken = time.time(), 0, [], ""
+        try:
+            for what, mine, right in run(random.Random(f"{chosen.seed} {run.__name__}"), chosen.count):
+                made += 1
+                if mine != right:
+                    wrong.append((what, mine, right))
+        except AssertionError as fault:
+            broken = f", not as it should be {fault}"
+        except Exception as fault:
+            # What the test did not expect of the command is a fault of this group alone.
+            broken = f", broken off by {fault!r}"
+        print(f"{run.__doc__.strip()}: {made} cases, {len(wrong)} not as they should be{broken} ({time.time() - began:.1f} s)")
+        # One of each kind of fault.
+        kinds = {(shortened(mine), shortened(right)): what for what, mine, right in reversed(wrong)}
+        for (mine, right), what in list(reversed(kinds.items()))[:12]:
+            print(f"  {what[:300]} .. {what[-300:]}" if len(what) > 600 else f"  {what}")
+            print(f"    is {mine}\n    not {right}")
+        cases += made
+        # A group that looks at nothing shows nothing.
+        passed, failed = (passed, failed + 1) if wrong or broken or made == 0 else (passed + 1, failed)
+    print(f"{cases} cases")
+    print(f"{passed} passed, {failed} failed")
+    sys.exit(0 if failed == 0 else 1)
+
+
+if __name__ == "__main__":
+    main()
