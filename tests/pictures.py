@@ -225,7 +225,7 @@ def documents(r, factor):
             same(bytes_of(out) == bytes_of(picture), True, "a picture of docs/", picture)
             yield 1
         for text in sorted(glob.glob(os.path.join(TOP, "examples", "*.txt"))):
-            subprocess.run([command, "write", text, out], check=True, stdout=subprocess.DEVNULL)
+            subprocess.run([command, "write", text, out], check=True, stdout=subprocess.DEVNULL, stderr=subprocess.DEVNULL)
             same(bytes_of(out), bytes_of(text[:-4] + ".schedule"), "the file of a text", text)
             report = subprocess.run([command, "report", out], stdout=subprocess.PIPE).stdout
             same(report, bytes_of(text[:-4] + ".report"), "the report of a text", text)
@@ -291,11 +291,11 @@ def check_way(root, tasks, gap, press, numbers, frame):
 
 
 def check_others(drawn_jobs, number, task, press, across, frame):
-    """The other jobs of a row: all that read between its ends, or none where they are more than 80. What reads at an end may be drawn or not."""
-    t, _, f = task
+    """The other jobs of a row: all that write after its beginning and read before its end, or none where they are more than 80. What does so just at an end may be drawn or not."""
+    t, d, f = task
     ends = [press + float(across.first) + (edge - across.start) / across.each for edge in frame[1:3]]
     wide = NEAR / across.each
-    seen, inner = (range(max(0, math.ceil((ends[0] - by - f) / t)), math.floor((ends[1] + by - f) / t) + 1) for by in (wide, -wide))
+    seen, inner = (range(max(0, math.ceil((ends[0] - by - f - d) / t)), math.floor((ends[1] + by - f) / t) + 1) for by in (wide, -wide))
     if len(inner) > 80:
         same(drawn_jobs, [], "a crowded row", task, press)
     elif len(seen) <= 80:
@@ -317,8 +317,8 @@ def ways(r, factor):
 # ---- The page
 
 def shown(ticks):
-    """A time as a page shows it: from 10,000 ticks on in milliseconds, else in microseconds, to three digits."""
-    value, unit = (Fraction(ticks, 1000), "ms") if ticks >= 10000 else (Fraction(ticks), "µs")
+    """A time as a page shows it: from 1,000 ticks on in milliseconds, else in microseconds, to three digits."""
+    value, unit = (Fraction(ticks, 1000), "ms") if ticks >= 1000 else (Fraction(ticks), "µs")
     rounded = Fraction(math.floor(value * 1000 + Fraction(1, 2)), 1000)
     text = f"{float(rounded):,.3f}".rstrip("0").rstrip(".")
     return f"{'' if rounded == value else '≈ '}{text} {unit}"
@@ -354,8 +354,8 @@ def check_bounds(section, tasks, gap, table, bound):
     if run not in (0, "endless"):
         wanted = f"The longest time over which every press waits longer than {shown(bound)} is {shown(run)}."
     same(wanted in section, True, "the longest exceedance", wanted)
-    wanted = f"at most {misses} take{'s' if misses == 1 else ''} longer" if misses else "none takes longer"
-    same(wanted in section and (not misses or f"job {first:,} is the first" in section), True, "windows", wanted, first)
+    wanted = f"at most {misses} of 10 jobs" if misses else "After the warm-up no job of the first place takes longer"
+    same(wanted in section and (not misses or f"begins with job {first:,}." in section), True, "windows", wanted, first)
     return 2
 
 

@@ -281,10 +281,20 @@ def ways_cases(r, file):
 
 
 def pair_of(answer):
-    """The press, the two chains and the four figures."""
-    bookings, differences = rf" +later booking +tick {COUNT}\n +earlier booking +tick {COUNT}\n", rf" +difference +{TIME}\n +greatest difference .*? {TIME}\n"
+    """The press, the two chains, the four figures, and the chains that book later and earlier."""
+    by = r", by chain (\d+)(?: and chain (\d+))?"
+    bookings, differences = rf" +later booking +tick {COUNT}{by}\n +earlier booking +tick {COUNT}{by}\n", rf" +difference +{TIME}\n +greatest difference .*? {TIME}\n"
     found = re.search(rf"tick {COUNT}, chains {COUNT} and {COUNT}:\n{bookings}{differences}$", answer.text())
-    return (*(number(found[i]) for i in range(1, 6)), time_of(found, 6), time_of(found, 8)) if found and not answer.err and not answer.status else answer
+    if not found or answer.err or answer.status:
+        return answer
+    later, earlier = ({int(each) for each in pair if each} for pair in (found.group(5, 6), found.group(8, 9)))
+    return (*(number(found[i]) for i in (1, 2, 3, 4, 7)), time_of(found, 10), time_of(found, 12), later, earlier)
+
+
+def bookers(file, n, m, t):
+    """Which of two chains book a press later, and which earlier: both where they book at once."""
+    booked = {c: reference.booking(file.places(c), file.gap, t) for c in (n, m)}
+    return tuple({c for c in booked if booked[c] == which(booked.values())} for which in (max, min))
 
 
 def pair_cases(r, file):
@@ -298,19 +308,24 @@ def pair_cases(r, file):
         for t in r.sample(ticks_of(r, file, n) + ticks_of(r, file, m), 3):
             right = reference.bookings_of(len(file.tasks), file.tasks, count, counted, file.gap, n, m, t)
             answer = called("pair", file.path, t, n, m)
-            yield f"pair {file.path} {t} {n} {m}", refused_with(answer) if answer.status else pair_of(answer), (t, n, m, *right[1:]) if right[0] == "ok" else (1, right[1], None)
+            yield f"pair {file.path} {t} {n} {m}", refused_with(answer) if answer.status else pair_of(answer), (t, n, m, *right[1:], *bookers(file, n, m, t)) if right[0] == "ok" else (1, right[1], None)
     yield f"pair {file.path} of no chain", refused_with(called("pair", file.path, 10**6, 1, count + 1)), (1, 16, None)
     yield f"pair {file.path} of chain 0", refused_with(called("pair", file.path, 10**6, 0, 1)), (1, 16, None)
 
 
 def windows_of(answer):
-    """The chain, the bound, the jobs of a window, the misses and the first job; no job is told where none misses."""
-    form = rf"chain {COUNT}: of {COUNT} successive jobs? of the first place (?:none|at most {COUNT}) takes? longer than ([0-9,.]+) (µs|ms) .*?(?:; job {COUNT} is the first .*)?\n$"
-    found = re.match(form, answer.text())
-    if not found or answer.err or answer.status:
+    """The chain, the bound, the misses, the jobs of a window and the first job; only the first two where none misses."""
+    longer = r"longer than ([0-9,.]+) (µs|ms) from the job's own read to its booking"
+    forms = (
+        rf"no job of the first place takes {longer}()()()", rf"a job of the first place can take {longer}; job {COUNT} is the first that does()()",
+        rf"at most {COUNT} of {COUNT} jobs of the first place in a row takes? {longer}; the first such stretch begins with job {COUNT}",
+    )
+    none, one, some = (re.fullmatch(rf"chain {COUNT}: after the warm-up {form}\n", answer.text()) for form in forms)
+    if answer.err or answer.status or not (none or one or some):
         return answer
-    bound = Fraction(found[4].replace(",", "")) * (1000 if found[5] == "ms" else 1)
-    return number(found[1]), bound, number(found[2]), number(found[3] or "0"), found[6] and number(found[6])
+    c, value, unit = (some.group(1, 4, 5) if some else (none or one).group(1, 2, 3))
+    told_of = (number(some[2]), number(some[3]), number(some[6])) if some else (1, 1, number(one[4])) if one else (0,)
+    return number(c), Fraction(value.replace(",", "")) * (1000 if unit == "ms" else 1), *told_of
 
 
 def windows_cases(r, file):
@@ -322,7 +337,7 @@ def windows_cases(r, file):
             bound = r.choice([0, 2**64 - 1, sum(place[1] for place in places), sum(place[0] + place[1] for place in places)])
             right = reference.windows(places, file.gap, bound, k)
             answer = called("windows", file.path, bound, k, "--chain", c)
-            expected = (c, bound, k, right[1], right[2] if right[1] else None) if right[0] == "ok" else (1, right[1], None)
+            expected = (c, bound, *((right[1], k, right[2]) if right[1] else (0,))) if right[0] == "ok" else (1, right[1], None)
             yield f"windows {file.path} {bound} {k} of chain {c}", refused_with(answer) if answer.status else windows_of(answer), expected
 
 
@@ -421,11 +436,13 @@ def refused_cases(r, folder):
 
 
 def long_cases(r, folder):
-    """report of more than the 4,096 bytes that the instrument's program looks at; check judges them all."""
+    """More than the 4,096 bytes that the instrument's program looks at: check judges as many, and says so."""
     for data in reports.long(r, 0.1):
         path = put(folder, "long-input", data)
         yield f"report of {len(data)} bytes", called("report", path), Answer(1, reference.report(data), "")
-        yield f"check of {len(data)} bytes", refused_with(called("check", path)), (1, *reference.read_file(data)[1:])
+        answer = called("check", path)
+        said_so = "Only the first 4,096 bytes are looked at." in answer.err
+        yield f"check of {len(data)} bytes", (refused_with(answer), said_so), ((1, *reference.read_file(data[:4096])[1:]), len(data) > 4095)
 
 
 def wrong_use_cases(folder):
@@ -492,7 +509,7 @@ def decimal(value, digits):
 
 def spelt(r, ticks):
     """A time as someone may write it, exactly."""
-    unit, digits = r.choice([("", 0), ("", 0), ("us", 0), ("ms", 3), ("s", 6)])
+    unit, digits = r.choice([("", 0), ("", 0), ("us", 0), ("\u00b5s", 0), ("\u03bcs", 0), ("ms", 3), ("s", 6)])
     before, after = decimal(ticks, digits) if digits else (ticks, "")
     word = r.choice([str, str, lambda value: grouped(value, ","), lambda value: grouped(value, "_")])(before)
     after = r.choice([after, after.rstrip("0")])
@@ -525,10 +542,21 @@ def in_process_both_ways(folder, tasks, chains, gap):
     data, text, out = b"".join(inputs.records(tasks, chains, gap)), canonical(tasks, chains, gap), os.path.join(folder, "out")
     yield f"text of {data.hex()}", called("text", "-", stdin=data), Answer(0, text, "")
     answer = called("write", "-", out, stdin=text)
-    yield f"write of {text!r}", (answer.status, content(out), answer.err), (0, data, "")
+    yield f"write of {text!r}", (answer.status, content(out), noted(answer.err)), (0, data, too_long(tasks, chains))
     # What is shown is the canonical text, after a line of its own.
     yield f"what write shows of {text!r}", answer.text().partition("\n")[2], text.decode()
     assert reference.write_file(len(tasks), tasks, len(chains), [(len(chain), chain) for chain in chains], gap, bytes(698))[1].startswith(data)
+
+
+def noted(err):
+    """The chains of which `write` notes that their hyperperiod is too long; what it says of other refusals is left out, and anything else is told whole."""
+    notes = [re.fullmatch(r"note: chain (\d) is refused with (7|11)( in a report)?: .*", line) for line in err.splitlines()]
+    return [int(note[1]) for note in notes if note[2] == "7"] if all(notes) else err
+
+
+def too_long(tasks, chains):
+    period = {task[0]: task[1] for task in tasks}
+    return [c for c, chain in enumerate(chains, start=1) if math.lcm(*[period[number] for number in chain]) > inputs.MOST_HYPER]
 
 
 def process_both_ways(folder, some):
@@ -618,7 +646,7 @@ WRONG_NUMBERS = [(with_period(word), 1, word, piece) for word, piece in (
     ("1_0", "thousands"), ("1,0000", "thousands"),
     ("1000,000", "thousands"), ("1__000", "thousands"), ("1,,000", "thousands"), ("1,000_000", "thousands"), ("1_000,000", "thousands"), ("1,000,", "thousands"),
     ("0,004", "thousands"), (",100", PERIOD), ("_100", PERIOD),
-    ("1'000", PERIOD), ("4min", "us, ms and s"), ("4ns", "us, ms and s"), ("4MS", "us, ms and s"), ("4S", "us, ms and s"), ("4µs", "us, ms and s"),
+    ("1'000", PERIOD), ("4min", "us, ms and s"), ("4ns", "us, ms and s"), ("4MS", "us, ms and s"), ("4S", "us, ms and s"), ("4us.", PERIOD),
     ("4msms", "us, ms and s"), ("4usms", "us, ms and s"), ("4ticks", "us, ms and s"),
     ("4.5", "has a unit"), ("4.0", "has a unit"), ("1.000", "has a unit"), ("4.5us", "whole number of ticks"), ("0.0005ms", "whole number of ticks"), ("1.2345ms", "whole number of ticks"),
     ("0.0000001s", "whole number of ticks"), (".5ms", PERIOD), ("5.ms", PERIOD),
@@ -890,6 +918,8 @@ def refused_in_words(r, factor):
     """refused files: the number, the place, the record and the values that check names"""
     kinds = collections.Counter()
     for data in damaged_files(r, factor):
+        # As the program does, the command looks at the first 4,096 bytes.
+        data = data[:4096]
         read = reference.read_file(data)
         if read[0] == "ok":
             continue
@@ -1075,8 +1105,9 @@ def unwritable_cases(folder):
         for name, how in (("full", {"stdout": full}), ("without a reader", {"stdout": gone}), ("closed", {"preexec_fn": functools.partial(os.close, 1)})):
             some = printing(out) if name == "full" else [["check", LASER], ["text", LASER], ["page", LASER, "-o", "-"], ["write", LASER_TEXT, "-"]]
             for arguments, answer in zip(some, ran_all([(arguments, b"", how) for arguments in some])):
+                # Who has stopped reading is not told.
                 found = answer.status, "standard output" in answer.err, "Traceback" in answer.err
-                yield f"{arguments} on a standard output that is {name}: {answer.err[-200:]}", found, (2, True, False)
+                yield f"{arguments} on a standard output that is {name}: {answer.err[-200:]}", found, (2, name != "without a reader", False)
     os.close(gone)
     for path in ("/dev/full", folder, os.path.join(folder, "missing", "out")):
         for arguments in (["write", LASER_TEXT, path], ["curve", LASER, "-o", path], ["page", LASER, "-o", path]):

@@ -122,15 +122,14 @@ def made(chain: Chain, count: int = SLOTS) -> Figures:
 
 
 def jobs_between(chain: Chain, place: int, first: int, last: int, most: int) -> Optional[List[Job]]:
-    """The jobs of a place that read from tick first to tick last, or nothing where there are more than so many. One after another: what a press at the read of a job
-    waits for is the next job."""
+    """The jobs of a place that write after tick first and read at most at tick last, or nothing where there are more than so many. One after another: what a press at
+    the read of a job waits for is the next job."""
     single = chain.single(place)
     warm = calls.warm_up(single).tick
-    # The press at a tick waits for a job that reads after it.
-    tick, jobs = first - 1, []
+    # A press at a tick waits for a job that reads after it, and what read so long ago has written by the first tick.
+    tick, jobs = first - single.task(1)[1], []
     if tick < warm:
-        if warm >= first:
-            jobs.append(job_written(single, 1, warm + single.task(1)[1]))
+        jobs.append(job_written(single, 1, warm + single.task(1)[1]))
         tick = warm
     while True:
         job = job_written(single, 1, tick + calls.delay(single, tick))

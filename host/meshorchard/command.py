@@ -3,6 +3,7 @@ from __future__ import annotations
 
 import argparse
 import os
+import re
 import stat
 import sys
 import traceback
@@ -14,8 +15,10 @@ from .library import Missing
 from .refusals import Refused
 
 PROGRAM = "./meshorchard"
-# What chainreport looks at of its input.
+# What the instrument's program looks at of its input; the longest schedule has 698 bytes.
 REPORTED = 4096
+# No text needs as much.
+LONGEST_TEXT = 1000000
 STREAM = "-"
 
 
@@ -53,6 +56,9 @@ def put(data: bytes) -> None:
         sys.stdout.buffer.flush()
     except OSError as fault:
         os.dup2(os.open(os.devnull, os.O_WRONLY), sys.stdout.fileno())
+        if isinstance(fault, BrokenPipeError):
+            # Who reads has gone, as `head` does, and knows it.
+            raise SystemExit(2) from None
         raise Stop(f"standard output cannot be written: {fault.strerror}") from None
 
 
@@ -85,16 +91,25 @@ def write(path: str, data: bytes, source: str) -> None:
         raise Stop(f"{shown(path)} cannot be written: {fault.strerror}") from None
 
 
+def file_bytes(path: str) -> bytes:
+    """The bytes of a schedule file, as many of them as the instrument's program looks at, so that every command judges what the report judges."""
+    return read(path, REPORTED)
+
+
+def cut_short(data: bytes) -> str:
+    return f" Only the first {REPORTED:,} bytes are looked at." if len(data) == REPORTED else ""
+
+
 def schedule_of(path: str) -> Schedule:
     """The schedule of a file; in words why it is none."""
-    data = read(path)
+    data = file_bytes(path)
     try:
         return calls.read_file(data)
     except Refused as refused:
         hint = ""
         if data.lstrip(b"\xef\xbb\xbf \t\r\n").startswith((b"task", b"chain", b"gap", b"#")):
             hint = f" It looks like a text; `{PROGRAM} write {shown(path, STREAM)} FILE` makes a file of it."
-        raise Unsound(words.of_file(shown(path), data, refused) + hint) from None
+        raise Unsound(words.of_file(shown(path), data, refused) + cut_short(data) + hint) from None
 
 
 def chain_of(schedule: Schedule, path: str, number: int) -> Chain:
@@ -117,8 +132,11 @@ def on_chain(schedule: Schedule, number: int, ask):
 # ---- The commands
 
 def do_write(asked) -> int:
+    given = read(asked.text, LONGEST_TEXT + 1)
+    if len(given) > LONGEST_TEXT:
+        raise Unsound(f"{shown(asked.text)} has more than {LONGEST_TEXT:,} bytes; the longest schedule has 37 lines.")
     try:
-        schedule = text.read(text.decoded(read(asked.text)))
+        schedule = text.read(text.decoded(given))
     except text.WrongLine as wrong:
         raise Unsound(f"{shown(asked.text)}, {wrong}") from None
     data = limits.file_of(schedule)
@@ -134,6 +152,11 @@ def do_write(asked) -> int:
         print("\n".join(lines), file=sys.stderr)
     else:
         say(lines)
+    # The file is what the text says; that a chain of it has no table is told here already.
+    for number in range(1, schedule.chain_count + 1):
+        said, refused = words.check_chain(schedule, number)
+        if refused:
+            print(f"note: {said[-1].strip()}", file=sys.stderr)
     return 0
 
 
@@ -154,7 +177,7 @@ def do_check(asked) -> int:
 
 
 def do_report(asked) -> int:
-    data, out = read(asked.file, REPORTED), bytearray(calls.LONGEST_REPORT)
+    data, out = file_bytes(asked.file), bytearray(calls.LONGEST_REPORT)
     report = bytes(out[:calls.report(data, out)])
     write(STREAM, report, asked.file)
     return 1 if b"refused" in report else 0
@@ -167,18 +190,22 @@ def do_explain(asked) -> int:
     return 0
 
 
-def do_delay(asked) -> int:
-    schedule = schedule_of(asked.file)
-    chain_of(schedule, asked.file, asked.chain)
-    say(on_chain(schedule, asked.chain, lambda: words.delay(schedule, asked.chain, asked.tick)))
+def answer_at(asked, ask) -> int:
+    """The delay or the age at a tick."""
+    if asked.named is not None and asked.chain is not None:
+        raise Stop("the chain is named twice")
+    schedule, number = schedule_of(asked.file), next((each for each in (asked.named, asked.chain) if each is not None), 1)
+    chain_of(schedule, asked.file, number)
+    say(on_chain(schedule, number, lambda: ask(schedule, number, asked.tick)))
     return 0
+
+
+def do_delay(asked) -> int:
+    return answer_at(asked, words.delay)
 
 
 def do_age(asked) -> int:
-    schedule = schedule_of(asked.file)
-    chain_of(schedule, asked.file, asked.chain)
-    say(on_chain(schedule, asked.chain, lambda: words.age(schedule, asked.chain, asked.tick)))
-    return 0
+    return answer_at(asked, words.age)
 
 
 def do_curve(asked) -> int:
@@ -191,11 +218,11 @@ def do_curve(asked) -> int:
 
 
 def do_page(asked) -> int:
-    data, name = read(asked.file), title_of(asked.file)
+    data, name = file_bytes(asked.file), title_of(asked.file)
     try:
         made = page.of_schedule(name, calls.read_file(data), asked.bound, asked.jobs)
     except Refused as fault:
-        made = page.of_refused(name, words.of_file("the file", data, fault))
+        made = page.of_refused(name, words.of_file("the file", data, fault) + cut_short(data))
     write(asked.output, made.text().encode(), asked.file)
     for sentence in made.refusals:
         print(sentence, file=sys.stderr)
@@ -210,7 +237,7 @@ def do_pair(asked) -> int:
         found = calls.bookings(schedule, asked.first, asked.second, asked.tick)
     except Refused as refused:
         raise Unsound(words.of_pair(schedule, asked.first, asked.second, refused)) from None
-    say(words.pair(found, asked.first, asked.second, asked.tick))
+    say(words.pair(schedule, found, asked.first, asked.second, asked.tick))
     return 0
 
 
@@ -223,8 +250,11 @@ def do_windows(asked) -> int:
 
 
 def title_of(path: str) -> str:
-    """What a picture calls a file: its name without folder and ending, with marks for what is no text."""
-    return shown(path) if path == STREAM else os.fsencode(os.path.splitext(os.path.basename(path))[0]).decode("utf-8", "replace")
+    """What a picture calls a file: its name without folder and ending, not too long, with marks for what is no text."""
+    if path == STREAM:
+        return shown(path)
+    name = re.sub("[\x00-\x1f\x7f\ufffe\uffff]", "\ufffd", os.fsencode(os.path.splitext(os.path.basename(path))[0]).decode("utf-8", "replace"))
+    return name if len(name) <= 40 else name[:39] + "…"
 
 
 # ---- The arguments
@@ -248,7 +278,9 @@ def as_number(word: str) -> int:
 # Name, what it does, its arguments, an example.
 FILE = ("file", {"metavar": "FILE", "help": "a schedule file, or - for standard input"})
 TICK = ("tick", {"metavar": "TICK", "type": as_ticks, "help": "in ticks of 1 us, or with a unit, as 42ms"})
-CHAIN = ("chain", {"metavar": "CHAIN", "type": as_number, "nargs": "?", "default": 1, "help": "the chain's number; 1 where none is named"})
+CHAIN = ("named", {"metavar": "CHAIN", "type": as_number, "nargs": "?", "help": "the chain's number; 1 where none is named"})
+# The same as an option, for who knows it from the other commands.
+CHAIN_TOO = ("--chain", {"metavar": "N", "type": as_number, "help": argparse.SUPPRESS})
 ONE_CHAIN = ("--chain", {"metavar": "N", "type": as_number, "default": 1, "help": "the chain's number; 1 where none is named"})
 OUTPUT = {"metavar": "OUT", "required": True, "help": "the file to write, or - for standard output"}
 COMMANDS = (
@@ -259,8 +291,8 @@ COMMANDS = (
     ("report", do_report, "print the report of a schedule file, as the instrument's program does", (FILE,), "report examples/chain-a.schedule"),
     ("explain", do_explain, "say what a refusal's number means", (("number", {"metavar": "N", "type": as_number}), ("place", {"metavar": "P", "type": as_number, "nargs": "?", "help": "the refusal's place"})),
      "explain 5 18"),
-    ("delay", do_delay, "how long a press at a tick waits, and by which jobs it is booked", (FILE, TICK, CHAIN), "delay examples/laser.schedule 95ms"),
-    ("age", do_age, "how old the newest reading is that a leg at a tick is booked from, and through which jobs it came", (FILE, TICK, CHAIN), "age examples/two-boards.schedule 325000 2"),
+    ("delay", do_delay, "how long a press at a tick waits, and by which jobs it is booked", (FILE, TICK, CHAIN, CHAIN_TOO), "delay examples/laser.schedule 95ms"),
+    ("age", do_age, "how old the newest reading is that a leg at a tick is booked from, and through which jobs it came", (FILE, TICK, CHAIN, CHAIN_TOO), "age examples/two-boards.schedule 325000 2"),
     ("curve", do_curve, "draw the delay of a press over one hyperperiod", (FILE, ("-o", {"dest": "output", **OUTPUT}), ONE_CHAIN), "curve examples/waters19-c1.schedule -o waters.svg"),
     ("page", do_page, "make a page of everything", (
         FILE, ("-o", {"dest": "output", **OUTPUT}),
@@ -285,7 +317,7 @@ class Parser(argparse.ArgumentParser):
 def arguments() -> argparse.ArgumentParser:
     examples = "\n".join(f"  {PROGRAM} {example}" for *_, example in COMMANDS)
     parser = Parser(
-        prog=PROGRAM, description="Schedules of cave-survey instruments: from a text to a file, to delays, and to pictures of them. Every number comes from the proved calls.",
+        prog=PROGRAM, description="Schedules of cave-survey instruments: from a text to a file, to delays, and to pictures of them. Every delay comes from the proved calls.",
         epilog=f"examples:\n{examples}\n\nThe exit status is 0; 1 where something is refused; 2 for wrong use, or where a file cannot be read or written.",
         formatter_class=argparse.RawDescriptionHelpFormatter,
     )

@@ -10,7 +10,7 @@ from typing import List, NamedTuple, Tuple
 
 from . import calls, measures
 from .analysis import Figures
-from .drawing import Axis, apart, at, document, dot, line, text
+from .drawing import Axis, apart, at, document, dot, line, text, wide
 from .lent import Chain, Table
 from .measures import counted
 
@@ -18,6 +18,10 @@ from .measures import counted
 PIXELS = 3
 # As many anchors as an instrument's report has room for are marked, with more the marks would be one band.
 MOST_MARKS = 1024
+
+
+# How far the marks of the delays lie apart, in pixels.
+ROOM_UP = 38
 
 
 class Frame(NamedTuple):
@@ -87,13 +91,27 @@ def columns(chain: Chain, figures: Figures, count: int) -> List[Column]:
     return [column(chain, figures, start, stop) for start, stop in zip(edges, edges[1:])]
 
 
+def levels(figures: Figures) -> List[Tuple[str, object, str]]:
+    """The lines across a curve: name, value, and what it is."""
+    return [
+        ("greatest", figures.greatest, "the greatest delay"),
+        ("mean", figures.mean, "the mean delay, over every time of a hyperperiod"),
+        ("low", figures.low, "low: every delay is above it"),
+    ]
+
+
+def level_label(value, up: Axis) -> str:
+    return f"{measures.in_unit(value, up.unit())} {measures.sign(up.unit())}"
+
+
 def axes(figures: Figures, frame: Frame) -> Tuple[Axis, Axis]:
-    """The axes: ticks of a press over one hyperperiod, and delays, from 0 where that leaves the curve half of the height."""
-    across = Axis(figures.warm, figures.warm + figures.hyperperiod, frame.left, frame.right)
+    """The axes: ticks of a press over one hyperperiod, and delays, from 0 where that leaves the curve half of the height. Long labels take their room from the curve."""
     height = figures.greatest - figures.low
     bottom = 0 if 2 * figures.low <= figures.greatest else max(0, figures.low - max(1, height // 4))
-    top = figures.greatest + max(1, height // 12)
-    return across, Axis(bottom, top, frame.bottom, frame.top)
+    up = Axis(bottom, figures.greatest + max(1, height // 12), frame.bottom, frame.top)
+    left = max(frame.left, 34 + wide(up.label(mark) for mark in up.marks(ROOM_UP)))
+    right = min(frame.right, frame.width - 16 - wide(level_label(value, up) for _, value, _ in levels(figures)))
+    return Axis(figures.warm, figures.warm + figures.hyperperiod, left, right), up
 
 
 def picture(chain: Chain, figures: Figures, name: str, frame: Frame = ALONE) -> str:
@@ -101,8 +119,8 @@ def picture(chain: Chain, figures: Figures, name: str, frame: Frame = ALONE) -> 
     across, up = axes(figures, frame)
     singly = frame.singly(figures.table.anchors)
     parts = [*_titles(figures, name, frame, singly), *_grid(across, up)]
-    levels = _levels(figures, across, up)
-    parts += [*levels, *_sawtooth(figures, across, up)] if singly else [*_columns(chain, figures, across, up), *levels]
+    drawn = _levels(figures, across, up)
+    parts += [*drawn, *_sawtooth(figures, across, up)] if singly else [*_columns(chain, figures, across, up), *drawn]
     return document(frame.width, frame.height, f"{name}: delay of a press over one hyperperiod", parts, frame.kind)
 
 
@@ -123,7 +141,7 @@ def _titles(figures: Figures, name: str, frame: Frame, singly: bool) -> List[str
 def _grid(across: Axis, up: Axis) -> List[str]:
     left, right, top, bottom = across.start, across.end, up.end, up.start
     parts = []
-    for value in up.marks(38):
+    for value in up.marks(ROOM_UP):
         y = up.place(value)
         parts += [line("hair grid-line", [(left, y), (right, y)]), text(left - 8, y + 4.5, up.label(value), "faint", "end")]
     for value in across.marks(88):
@@ -138,17 +156,12 @@ def _grid(across: Axis, up: Axis) -> List[str]:
 
 def _levels(figures: Figures, across: Axis, up: Axis) -> List[str]:
     """Greatest, mean and low as lines, named at the right."""
-    levels = [
-        ("greatest", figures.greatest, "the greatest delay"),
-        ("mean", figures.mean, "the mean delay, over every time of a hyperperiod"),
-        ("low", figures.low, "low: every delay is above it"),
-    ]
-    labels = apart([up.place(value) for _, value, _ in levels], 34)
+    labels = apart([up.place(value) for _, value, _ in levels(figures)], 34)
     parts, end = [], across.end + 6
-    for (name, value, words), label in zip(levels, labels):
+    for (name, value, words), label in zip(levels(figures), labels):
         ends = [(across.start, up.place(value)), (end, up.place(value))]
         parts += [line(f"line dashed {name}-line", ends, more=f' data-level="{name}"'), line("hover", ends, f"{words}: {measures.said(value)}")]
-        parts += [text(end + 6, label + 1, name, name), text(end + 6, label + 16, f"{measures.in_unit(value, up.unit())} {measures.sign(up.unit())}", name)]
+        parts += [text(end + 6, label + 1, name, name), text(end + 6, label + 16, level_label(value, up), name)]
     return parts
 
 

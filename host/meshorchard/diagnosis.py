@@ -116,4 +116,4 @@ def _unknown(before: List[Record], here: Record, which: str) -> str:
     known = [record.task().number for record in before if record.kind == TASK]
     place, number = next((place, number) for place, number in enumerate(here.chain(), start=1) if number not in known)
     chain = 1 + sum(record.kind == CHAIN for record in before)
-    return f"{which}, is chain {chain}, and its place {place} names task {number}; the tasks are {', '.join(map(str, known))}"
+    return f"{which}, is chain {chain}, and its place {place} names task {number}; {limits.known(known)}"

@@ -45,6 +45,11 @@ def document(width: int, height: int, name: str, parts: Iterable[str], kind: str
     return "\n".join([head, *parts, "</svg>"]) + "\n"
 
 
+def wide(labels: Iterable[str]) -> float:
+    """The room of the longest of some labels, a little more than the widest usual letters take."""
+    return max(7.6 * len(label) for label in labels)
+
+
 def at(value: float) -> str:
     """A coordinate, to a hundredth."""
     return f"{value:.2f}".rstrip("0").rstrip(".")

@@ -1,7 +1,7 @@
 """Which value of a task, a chain or a gap a refusal is about, and its limit in words. The proved call decides: it is asked about each value alone."""
 from __future__ import annotations
 
-from typing import List, Optional
+from typing import List, Optional, Sequence
 
 from . import calls
 from .lent import Schedule, Task
@@ -19,6 +19,11 @@ WORDS = {
     "chains": "a schedule has 1 to 4 chains",
     "places": "a chain has 1 to 12 places",
 }
+
+
+def known(numbers: Sequence[int]) -> str:
+    """The tasks that there are."""
+    return f"the only task is {numbers[0]}" if len(numbers) == 1 else f"the tasks are {', '.join(map(str, numbers))}"
 
 
 def refusal(schedule: Schedule) -> Optional[Refused]:

@@ -7,8 +7,8 @@ from typing import Optional
 
 from .lent import LARGEST
 
-# How many ticks a unit has.
-UNITS = {"us": 1, "ms": 1000, "s": 1000000}
+# How many ticks a unit has. With either of the two signs for micro it is how this program prints it.
+UNITS = {"us": 1, "\u00b5s": 1, "\u03bcs": 1, "ms": 1000, "s": 1000000}
 # Plain digits, or groups of three after the first; a number with groups does not begin with 0, so that 0,004 is not taken for 4.
 WHOLE = r"[0-9]+|[1-9][0-9]{0,2}(?:,[0-9]{3})+|[1-9][0-9]{0,2}(?:_[0-9]{3})+"
 TIME = re.compile(rf"(?P<whole>{WHOLE})(?:\.(?P<part>[0-9]+))?(?P<unit>[^0-9.,_]*)")
@@ -86,14 +86,14 @@ def said(value) -> str:
 
 
 def short(value) -> str:
-    """A time as short as it can be said: in milliseconds from 10,000 ticks on."""
+    """A time as short as it can be said exactly: in milliseconds from 1,000 ticks on."""
     unit = unit_for(value)
     return f"{in_unit(value, unit)} {sign(unit)}"
 
 
 def unit_for(value) -> str:
     """The unit in which a time is read most easily."""
-    return "ms" if value >= 10000 else "us"
+    return "ms" if value >= 1000 else "us"
 
 
 def sign(unit: str) -> str:

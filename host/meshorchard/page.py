@@ -32,24 +32,34 @@ td{border-top:1px solid var(--line)}
 dl{display:grid;grid-template-columns:repeat(3,1fr);gap:10px;margin:12px 0}
 dl div{background:var(--card);border:1px solid var(--line);border-radius:8px;padding:8px 10px}
 dt{color:var(--faint);font-size:13px}
-dd{margin:0;font-size:18px;font-weight:600;font-variant-numeric:tabular-nums;white-space:nowrap}
+dd{margin:0;font-size:18px;font-weight:600;font-variant-numeric:tabular-nums}
 .refused{border-left:4px solid var(--warn);background:var(--card);padding:10px 14px;border-radius:0 8px 8px 0;overflow-wrap:anywhere}
 .refused strong{color:var(--warn)}
 svg.picture{display:block;width:100%;height:auto;margin:6px 0}
-svg.narrow{display:none}
-@media (max-width:640px){body{font-size:15px}main{padding:16px 14px 28px}h1{font-size:23px}h2{margin-top:28px}svg.wide{display:none}svg.narrow{display:block}
+svg.narrow,p.narrow{display:none}
+@media (max-width:640px){body{font-size:15px}main{padding:16px 14px 28px}h1{font-size:23px}h2{margin-top:28px}svg.wide,p.wide{display:none}svg.narrow,p.narrow{display:block}
 dl{grid-template-columns:repeat(2,1fr);gap:8px}dd{font-size:17px}th,td{padding-right:10px}}
 @page{size:A4;margin:10mm}
 @media print{:root{--paper:#fff;--ink:#1c2228;--faint:#5d6873;--line:#e3e7eb;--card:#fff;--warn:#b3261e}
 body{font-size:9pt;line-height:1.3}main{max-width:none;padding:0}h1{font-size:15pt;margin:0}h2{font-size:11pt;margin:4pt 0 2pt;padding-top:3pt}h3{font-size:9pt;margin:3pt 0 1pt}
 p{margin:1pt 0}table{margin:2pt 0}.faint,footer,th{font-size:8pt}th,td{padding:0 6pt 0 0}dl{display:none}footer{margin-top:4pt;padding-top:3pt}
 .tasks{flex-wrap:nowrap;gap:0 8mm}section,.refused{break-inside:avoid}.refused{padding:0 5pt;border-left-width:2pt}
-svg.picture{margin:1pt auto}svg.wide{display:block}svg.narrow{display:none}
-.chains-1 .curve svg{max-height:90mm}.chains-1 .way svg{max-height:95mm}
-.several .chains{display:grid;grid-template-columns:1fr 1fr;gap:0 7mm}.several svg.wide{display:none}.several svg.narrow{display:block}
+svg.picture{margin:1pt auto}svg.wide,p.wide{display:block}svg.narrow,p.narrow{display:none}
+.chains-1 .curve svg{max-height:72mm}.chains-1 .way svg{max-height:68mm}
+.several .chains{display:grid;grid-template-columns:1fr 1fr;gap:0 7mm}.several .wide{display:none}.several .narrow{display:block}.several .words{display:none}
 .several .curve svg{max-height:60mm}.several .way svg{max-height:62mm}.several .pairs{columns:2}
 .many{font-size:7pt;line-height:1.2}.many h2{font-size:8.5pt}.many h3{font-size:7.5pt;margin:1pt 0 0}.many .pictures h3{display:none}.many th,.many .faint,.many footer{font-size:7pt}
-.many .curve svg{max-height:40mm}.many .way svg{max-height:30mm}}
+.many .curve svg{max-height:36mm}.many .way svg{max-height:27mm}}
+"""
+
+
+# What the words and the signs mean, on the screen and on the sheet of one chain.
+WORDS = """<section class="words"><h2>How to read this page</h2>
+<p><b>Delay</b>: the time from a press until it is booked, the write of the last task. <b>Hyperperiod</b>: the time after which the delays repeat. <b>Warm-up tick</b>: presses before it
+are not counted, since the chain still fills. <b>Anchor</b>, a dot on the curve: from there the delay falls by one tick a tick until the next one; the anchors are the table that the instrument
+makes. A hollow dot is not reached, and neither is the <b>low</b>. A job of the <b>first place</b> is one sample; its own time begins with its read, a press has waited before that.</p>
+<p>In the picture of a way a blue bar is a job that carries the press, from its read to its write, a line the wait for the next task's read, a grey bar another job of the task; a dotted line
+stands for more than 80 of them.</p></section>
 """
 
 
@@ -77,7 +87,7 @@ class Page:
         kind = "chains-1" if self.chains < 2 else "several" if self.chains == 2 else "several many"
         head = '<!doctype html>\n<html lang="en">\n<head>\n<meta charset="utf-8">\n<meta name="viewport" content="width=device-width, initial-scale=1">'
         style = f"<title>{escape(self.name)}: delays</title>\n<style>{STYLE}{drawing.rules('.picture')}</style>"
-        foot = "<footer>The figures, curves and ways on this page come from the proved calls of Meshorchard. 1 tick is 1 µs.</footer>"
+        foot = f"{WORDS}<footer>The figures, curves and ways on this page come from the proved calls of Meshorchard. 1 tick is 1 µs.</footer>" if self.chains else ""
         return "\n".join([head, style, f'</head>\n<body>\n<main class="{kind}">', *self.parts, foot, "</main>\n</body>\n</html>"]) + "\n"
 
 
@@ -124,8 +134,7 @@ def _chain(page: Page, chain: Chain, number: int, tasks: Sequence[int], bound: O
     figures = made(chain)
     _figures(page, figures)
     page.add('<div class="pictures">', '<div class="curve">', "<h3>Delay of a press over one hyperperiod</h3>")
-    if not curve.WIDE.singly(figures.table.anchors):
-        page.add(f'<p class="faint">{curve.close(figures)}.</p>')
+    page.add(*[f'<p class="faint {frame.kind}">{curve.close(figures)}.</p>' for frame in (curve.WIDE, curve.NARROW) if not frame.singly(figures.table.anchors)])
     page.add(*[curve.picture(chain, figures, f"chain {number}", frame) for frame in (curve.WIDE, curve.NARROW)])
     page.add("</div>", '<div class="way">', f"<h3>The way of the worst press, at {short(figures.worst)}</h3>")
     page.add(*[timeline.picture(chain, tasks, figures.worst, f"chain {number}", frame) for frame in (timeline.WIDE, timeline.NARROW)])
@@ -137,8 +146,8 @@ def _figures(page: Page, figures: Figures) -> None:
     """The figures of a chain, in words and one by one."""
     anchors = counted(figures.table.anchors, "anchor")
     page.add(
-        f"<p>A press waits at most <b>{short(figures.greatest)}</b> until it is booked, always longer than <b>{short(figures.low)}</b>, and <b>{short(figures.mean)}</b> on average. "
-        f"The delays repeat every {short(figures.hyperperiod)}; the first press that has one is at {short(figures.warm)}. The table of all of them has {anchors}.</p>"
+        f"<p>From {short(figures.warm)} on, when the chain has warmed up, a press waits at most <b>{short(figures.greatest)}</b> until it is booked, always longer than "
+        f"<b>{short(figures.low)}</b>, and <b>{short(figures.mean)}</b> on average. The delays repeat every {short(figures.hyperperiod)}, and their table has {anchors}.</p>"
     )
     cells = [
         ("greatest delay", short(figures.greatest)), ("mean delay", short(figures.mean)), ("low, not reached", short(figures.low)),

@@ -82,12 +82,12 @@ def explanation(number: int, place: Optional[int] = None) -> List[str]:
     meaning = MEANINGS[number]
     lines = [f"{number}: {meaning.short}."]
     if place is not None:
-        for of, name in (("file", "of a schedule file"), ("schedule", "of a schedule in lists"), ("chain", "of a chain in lists")):
+        for of, name, most in (("file", "in a report or of a schedule file", None), ("schedule", "of a call on a schedule", 32), ("chain", "of a call on a chain", 12)):
             said = position(number, place, of)
-            if said and (place > 0 or of == "file" or number == 5):
+            if said and (most is None or place <= most and (place > 0 or number == 5)):
                 lines.append(f"Place {place:,} {name}: {said}.")
         if len(lines) == 1:
-            lines.append(f"This refusal has no place but 0." if place else "Place 0: it is of the whole, not of one part.")
+            lines.append("This refusal has no place but 0." if place else "Place 0: it is of the whole, not of one part.")
     lines.append(f"Right would be: {meaning.right}.")
     return lines
 

@@ -16,7 +16,8 @@ EXAMPLE = """
   gap 10
 
 First the tasks, their numbers rising; then one to four chains, each with the numbers of its tasks in the order of their places; then the gap, if
-there is one: how long after its write a value can be read. Times are in ticks of 1 us, or have a unit: us, ms or s. A # begins a comment.""".strip("\n")
+there is one: how long after its write a value can be read, at every link of every chain. A task samples or takes over a value every period, for the first time
+at its phase, and writes the result a duration later. Times are in ticks of 1 us, or have a unit: us, ms or s. A # begins a comment.""".strip("\n")
 AS_TASK = "task 7 period 4000 duration 4000 phase 0"
 AS_CHAIN = "chain 7 9 9"
 AS_GAP = "gap 10"
@@ -115,7 +116,7 @@ class Reader:
         elif kind == "gap":
             self.the_gap(line)
         else:
-            raise line.wrong(0, "a line begins with task, chain or gap")
+            raise line.wrong(0, "a line begins with task, chain or gap, in small letters")
 
     def before_gap(self, line: Line) -> None:
         if self.gap_line:
@@ -158,8 +159,7 @@ class Reader:
         if found and found.number == 8:
             raise line.wrong(0, f"this is chain {len(self.chains)} of the text, and {limits.WORDS['chains']}")
         if found:
-            known = ", ".join(str(task.number) for task in self.tasks)
-            raise line.wrong(found.place, f"there is no task of that number; the tasks are {known}")
+            raise line.wrong(found.place, f"there is no task of that number; {limits.known([task.number for task in self.tasks])}")
 
     def the_gap(self, line: Line) -> None:
         self.before_gap(line)

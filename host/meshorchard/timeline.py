@@ -61,9 +61,12 @@ def _row(chain: Chain, job: Job, number: int, press: int, across: Axis, rows: Ro
     """One place: its other jobs behind, and the one on the way before them."""
     middle = rows.middle(job.place)
     parts = [text(across.start - 10, middle + 4.5, f"task {number}", "ink", "end")]
-    for other in jobs_between(chain, job.place, press + across.first, press + across.last, MOST_JOBS) or []:
+    others = jobs_between(chain, job.place, press + across.first, press + across.last, MOST_JOBS)
+    if others is None:
+        parts.append(line("hair dotted faint-line", [(across.start, middle), (across.end, middle)], f"task {number}: more than {MOST_JOBS} jobs, which are not drawn one by one"))
+    for other in others or []:
         if other.number != job.number:
-            begin, end = across.place(other.read - press), min(across.place(other.write - press), across.end)
+            begin, end = max(across.place(other.read - press), across.start), min(across.place(other.write - press), across.end)
             parts.append(box("idle", begin, middle - 3, max(1, end - begin - 1), 6, _said(other, number), f' data-place="{job.place}" data-other="{other.number}"'))
     begin, end = across.place(job.read - press), across.place(job.write - press)
     more = f' rx="2" data-place="{job.place}" data-job="{job.number}" data-read="{job.read}" data-write="{job.write}"'

@@ -4,7 +4,7 @@ from __future__ import annotations
 from typing import List, Sequence, Tuple
 
 from . import calls, diagnosis
-from .analysis import Job, first_leg, slots_table, way_of_leg, way_of_press
+from .analysis import Disagreement, Job, first_leg, slots_table, way_of_leg, way_of_press
 from .lent import Chain, Schedule
 from .measures import counted, said, short
 from .refusals import Refused
@@ -37,12 +37,12 @@ def of_chain(schedule: Schedule, number: int, refused: Refused) -> str:
 
 def of_pair(schedule: Schedule, first: int, second: int, refused: Refused) -> str:
     """Why two chains of a sound schedule are not put side by side."""
+    said_of = f"chains {first} and {second} are refused with {refused.number}"
     for number in (first, second):
         try:
             calls.warm_up(calls.chain_of_schedule(schedule, number))
-        except Refused as alone:
-            return of_chain(schedule, number, alone)
-    said_of = f"chains {first} and {second} are refused with {refused.number}"
+        except Refused:
+            return f"{said_of}: the hyperperiod of chain {number} alone is above 60,000,000 µs (60 s)."
     if refused.number == 7:
         return f"{said_of}: their common hyperperiod is above 60,000,000 µs (60 s)."
     if refused.number == 12:
@@ -116,20 +116,29 @@ def exceedance(found: calls.Exceedance, b: int) -> str:
 
 
 def windows(found: calls.Windows, b: int, k: int) -> str:
-    """The jobs of the first place that miss a bound."""
-    jobs = f"of {counted(k, 'successive job')} of the first place"
+    """The jobs of the first place that miss a bound. The call counts those after the warm-up job."""
+    longer = f"longer than {short(b)} from the job's own read to its booking"
     if found.misses == 0:
-        return f"{jobs} none takes longer than {short(b)} from its read to its booking"
+        return f"after the warm-up no job of the first place takes {longer}"
+    if k == 1:
+        return f"after the warm-up a job of the first place can take {longer}; job {found.first:,} is the first that does"
     take = "takes" if found.misses == 1 else "take"
-    return f"{jobs} at most {found.misses} {take} longer than {short(b)} from read to booking; job {found.first:,} is the first with which so bad a stretch begins"
+    return f"after the warm-up at most {found.misses} of {k:,} jobs of the first place in a row {take} {longer}; the first such stretch begins with job {found.first:,}"
 
 
-def pair(found: calls.Bookings, first: int, second: int, t: int) -> List[str]:
-    """The bookings of a press by two chains."""
+def pair(schedule: Schedule, found: calls.Bookings, first: int, second: int, t: int) -> List[str]:
+    """The bookings of a press by two chains; which chain books when is asked of each alone, and must be the same."""
+    booked = {number: t + calls.delay(calls.chain_of_schedule(schedule, number), t) for number in (first, second)}
+    if (max(booked.values()), min(booked.values())) != (found.later, found.earlier):
+        raise Disagreement(f"chains {first} and {second} book a press at {t} otherwise together than alone")
+
+    def by(tick: int) -> str:
+        return " and ".join(f"chain {number}" for number in sorted(booked) if booked[number] == tick)
+
     return [
         f"press at tick {t:,}, chains {first} and {second}:",
-        f"  later booking    tick {found.later:,}",
-        f"  earlier booking  tick {found.earlier:,}",
+        f"  later booking    tick {found.later:,}, by {by(found.later)}",
+        f"  earlier booking  tick {found.earlier:,}, by {by(found.earlier)}",
         f"  difference       {said(found.difference)}",
         f"  greatest difference of any press  {said(found.greatest)}",
     ]
