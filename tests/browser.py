@@ -68,8 +68,8 @@ TEXTS = {
     "crowded": crowded(),
     # More anchors than a report holds, beside a chain with which there is no common hyperperiod.
     "many-anchors": "".join(f"task {i} period {t} duration 3 phase 0\n" for i, t in enumerate((47, 16, 9, 5, 7, 11, 23, 997, 1000), start=1)) + "chain 1 2 3 4 5 6 7\nchain 8 9\n",
-    # The longest latency there is, so the longest numbers at the lines of a curve.
-    "longest": "".join(f"task {i} period 1000000 duration 4000000 phase {999 * (i - 1) % 1000000}\n" for i in range(1, 13)) + f"chain {' '.join(map(str, range(1, 13)))}\ngap 1000\n",
+    # The longest latency there is, so the longest numbers at the lines of a curve, and tasks that fill no place.
+    "longest": "".join(f"task {i} period 1000000 duration 4000000 phase {999 * (i - 1) % 1000000}\n" for i in range(1, 33)) + f"chain {' '.join(map(str, range(1, 13)))}\ngap 1000\n",
     # Numbers with as many digits as there can be on an axis, and a mean that is not whole.
     "digits": "task 1 period 3 duration 3999999 phase 999999\ntask 2 period 7 duration 4000000 phase 1s\nchain 1 2 1 2 1 2 1 2 1 2 1 2\n",
     "three-many": "".join(f"task {i} period {t} duration 3 phase 0\n" for i, t in enumerate((47, 16, 9, 5, 7, 11, 23), start=1)) + "chain 1 2 3 4 5 6 7\nchain 7 6 5 4 3 2 1\nchain 1 7\n",

@@ -45,7 +45,7 @@ body{font-size:9pt;line-height:1.3}main{max-width:none;padding:0}h1{font-size:15
 p{margin:1pt 0}table{margin:2pt 0}.faint,footer,th{font-size:8pt}th,td{padding:0 6pt 0 0}dl{display:none}footer{margin-top:4pt;padding-top:3pt}
 .tasks{flex-wrap:nowrap;gap:0 8mm}section,.refused{break-inside:avoid}.refused{padding:0 5pt;border-left-width:2pt}
 svg.picture{margin:1pt auto}svg.wide,p.wide{display:block}svg.narrow,p.narrow{display:none}
-.chains-1 .curve svg{max-height:72mm}.chains-1 .way svg{max-height:68mm}
+.chains-1 .curve svg{max-height:66mm}.chains-1 .way svg{max-height:60mm}.words{font-size:8pt}
 .several .chains{display:grid;grid-template-columns:1fr 1fr;gap:0 7mm}.several .wide{display:none}.several .narrow{display:block}.several .words{display:none}
 .several .curve svg{max-height:60mm}.several .way svg{max-height:62mm}.several .pairs{columns:2}
 .many{font-size:7pt;line-height:1.2}.many h2{font-size:8.5pt}.many h3{font-size:7.5pt;margin:1pt 0 0}.many .pictures h3{display:none}.many th,.many .faint,.many footer{font-size:7pt}
