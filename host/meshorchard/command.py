@@ -3,8 +3,6 @@ from __future__ import annotations
 
 import argparse
 import os
-import re
-import stat
 import sys
 import traceback
 from typing import List, Optional
@@ -13,82 +11,17 @@ from . import analysis, calls, curve, limits, measures, page, refusals, text, wo
 from .lent import Chain, Schedule
 from .library import Missing
 from .refusals import Refused
+from .streams import STREAM, Stop, put, read, say, shown, title_of, write
 
 PROGRAM = "./meshorchard"
 # What the instrument's program looks at of its input; the longest schedule has 698 bytes.
 REPORTED = 4096
 # No text needs as much.
 LONGEST_TEXT = 1000000
-STREAM = "-"
-
-
-class Stop(Exception):
-    """Wrong use, or a file that cannot be read or written: status 2."""
 
 
 class Unsound(Exception):
     """A file or a text that is refused, in words: status 1."""
-
-
-def shown(path: str, of: str = "standard input") -> str:
-    return of if path == STREAM else path or "''"
-
-
-def read(path: str, most: int = -1) -> bytes:
-    """The bytes of a file or of standard input, or so many of them at most."""
-    try:
-        if path == STREAM:
-            if sys.stdin is None:
-                raise Stop("standard input is closed")
-            return sys.stdin.buffer.read(most)
-        with open(path, "rb") as file:
-            return file.read(most)
-    except OSError as fault:
-        raise Stop(f"{shown(path)} cannot be read: {fault.strerror}") from None
-
-
-def put(data: bytes) -> None:
-    """Writes to standard output, at once. What cannot be written is told, and nothing tries it again when the program ends."""
-    if sys.stdout is None:
-        raise Stop("standard output is closed")
-    try:
-        sys.stdout.buffer.write(data)
-        sys.stdout.buffer.flush()
-    except OSError as fault:
-        os.dup2(os.open(os.devnull, os.O_WRONLY), sys.stdout.fileno())
-        if isinstance(fault, BrokenPipeError):
-            # Who reads has gone, as `head` does, and knows it.
-            raise SystemExit(2) from None
-        raise Stop(f"standard output cannot be written: {fault.strerror}") from None
-
-
-def say(lines: List[str]) -> None:
-    """Lines on standard output; a terminal that lacks a sign shows a question mark for it."""
-    encoding = sys.stdout.encoding if sys.stdout else "utf-8"
-    put("".join(line + "\n" for line in lines).encode(encoding, "replace"))
-
-
-def same_file(path: str, source: str) -> bool:
-    """Whether a file to be written is the one that was read, by its name or through standard input."""
-    try:
-        one, two = os.stat(path), os.fstat(sys.stdin.fileno()) if source == STREAM else os.stat(source)
-    except (OSError, ValueError, AttributeError):
-        return False
-    return stat.S_ISREG(one.st_mode) and os.path.samestat(one, two)
-
-
-def write(path: str, data: bytes, source: str) -> None:
-    """Writes a file; never over the one that was read."""
-    if path == STREAM:
-        put(data)
-        return
-    if same_file(path, source):
-        raise Stop(f"{path} is what was read; name another file to write")
-    try:
-        with open(path, "wb") as file:
-            file.write(data)
-    except OSError as fault:
-        raise Stop(f"{shown(path)} cannot be written: {fault.strerror}") from None
 
 
 def file_bytes(path: str) -> bytes:
@@ -142,12 +75,11 @@ def do_write(asked) -> int:
     data = limits.file_of(schedule)
     write(asked.file, data, asked.text)
     # What is shown is what stands in the file now.
-    if asked.file != STREAM and os.path.isfile(asked.file):
-        if read(asked.file) != data:
-            raise Stop(f"{asked.file} does not hold what was written to it")
-        data = read(asked.file)
+    back = read(asked.file) if asked.file != STREAM and os.path.isfile(asked.file) else data
+    if back != data:
+        raise Stop(f"{asked.file} does not hold what was written to it")
     name = shown(asked.file, "standard output")
-    lines = [f"{name}: {len(data)} bytes; the instrument will read", text.canonical(calls.read_file(data)).rstrip("\n")]
+    lines = [f"{name}: {len(back)} bytes; the instrument will read", text.canonical(calls.read_file(back)).rstrip("\n")]
     if asked.file == STREAM:
         print("\n".join(lines), file=sys.stderr)
     else:
@@ -247,14 +179,6 @@ def do_windows(asked) -> int:
     found = on_chain(schedule, asked.chain, lambda: calls.windows(chain, asked.bound, asked.jobs))
     say([f"chain {asked.chain}: {words.windows(found, asked.bound, asked.jobs)}"])
     return 0
-
-
-def title_of(path: str) -> str:
-    """What a picture calls a file: its name without folder and ending, not too long, with marks for what is no text."""
-    if path == STREAM:
-        return shown(path)
-    name = re.sub("[\x00-\x1f\x7f\ufffe\uffff]", "\ufffd", os.fsencode(os.path.splitext(os.path.basename(path))[0]).decode("utf-8", "replace"))
-    return name if len(name) <= 40 else name[:39] + "…"
 
 
 # ---- The arguments
