@@ -78,9 +78,9 @@ TEXTS = {
     "three": "task 1 period 33ms duration 33ms phase 0\ntask 2 period 400ms duration 400ms phase 7us\ntask 3 period 7ms duration 1us phase 0\nchain 1 2\nchain 3 1\nchain 2 3 3 3\n",
 }
 EXAMPLES = ("chain-a", "two-boards", "waters19-c1", "refused")
-# Pages on which something is refused: the file, its first chain, or two chains side by side. Where it is one of the first two there is no curve.
+# Pages on which something is refused: the file, its first chain, a table for which a report has no room, or two chains side by side. With the first two there is no curve.
 WITHOUT_CURVE = ("no-schedule", "refused", "four-refused")
-REFUSED = (*WITHOUT_CURVE, "many-anchors", "three", "four-refused")
+REFUSED = (*WITHOUT_CURVE, "many-anchors", "three", "three-many")
 
 
 def pages(folder):

@@ -7,6 +7,7 @@ groups. A disagreement is printed with its input.
 """
 import argparse
 import collections
+import dataclasses
 import itertools
 import math
 import multiprocessing
@@ -611,37 +612,37 @@ def schedules_refused(ours, r, factor, compare):
         schedule, length = inputs.lent_schedule(r, tasks, chains, gap), file_length(len(tasks), sizes, gap)
         count, past = schedule.count, schedule.tasks[4 * len(tasks):]
         for faulty in inputs.faulty_tasks(tasks):
-            compare_refused(ours, r, schedule._replace(tasks=inputs.flat(faulty) + past), r.choice(lent_sizes(r, length)), compare)
+            compare_refused(ours, r, dataclasses.replace(schedule, tasks=inputs.flat(faulty) + past), r.choice(lent_sizes(r, length)), compare)
         compare.must_meet(5)
         # The gap alone, then after a fault of a task and of a count, then before one of a chain.
         for gap in inputs.FAULTY_GAPS:
-            compare_refused(ours, r, schedule._replace(gap=gap), r.choice(lent_sizes(r, length)), compare)
+            compare_refused(ours, r, dataclasses.replace(schedule, gap=gap), r.choice(lent_sizes(r, length)), compare)
         compare.must_meet(OF_GAP)
         for gap in inputs.FAULTY_GAPS:
-            compare_refused(ours, r, schedule._replace(gap=gap, tasks=inputs.replaced(schedule.tasks, 4 * r.randrange(count) + 1, 0)), length, compare)
+            compare_refused(ours, r, dataclasses.replace(schedule, gap=gap, tasks=inputs.replaced(schedule.tasks, 4 * r.randrange(count) + 1, 0)), length, compare)
         compare.must_meet(5)
         for gap in inputs.FAULTY_GAPS:
-            compare_refused(ours, r, schedule._replace(gap=gap, count=r.choice([0, 33])), length, compare)
+            compare_refused(ours, r, dataclasses.replace(schedule, gap=gap, count=r.choice([0, 33])), length, compare)
         compare.must_meet(8)
         for gap in inputs.FAULTY_GAPS:
-            compare_refused(ours, r, schedule._replace(gap=gap, chains=inputs.replaced(schedule.chains, 0, 0)), length, compare)
+            compare_refused(ours, r, dataclasses.replace(schedule, gap=gap, chains=inputs.replaced(schedule.chains, 0, 0)), length, compare)
         compare.must_meet(OF_GAP)
         for c, chain in enumerate(chains):
             for place, number in inputs.faulty_chain(r, tasks, chain, past[::4]):
                 strange = inputs.replaced(schedule.chains, proved.ROW * c + place, number)
-                compare_refused(ours, r, schedule._replace(chains=strange), r.choice(lent_sizes(r, length)), compare)
+                compare_refused(ours, r, dataclasses.replace(schedule, chains=strange), r.choice(lent_sizes(r, length)), compare)
             compare.must_meet(6)
         # Lists that hold as many as the counts say, where a list can.
-        long = schedule._replace(tasks=inputs.flat((tasks * 40)[:40]), chains=(schedule.chains * 80)[:80], places=[*schedule.places[:len(chains)], 1, 1, 1, 1])
+        long = dataclasses.replace(schedule, tasks=inputs.flat((tasks * 40)[:40]), chains=(schedule.chains * 80)[:80], places=[*schedule.places[:len(chains)], 1, 1, 1, 1])
         for other in [0, 33, 34, 40, *[count + many for many in inputs.MANY], proved.LARGEST]:
-            compare_refused(ours, r, long._replace(count=other), r.choice([length, 2000]), compare)
+            compare_refused(ours, r, dataclasses.replace(long, count=other), r.choice([length, 2000]), compare)
         compare.must_meet(8)
         for other in [0, 5, 6, *[len(chains) + many for many in inputs.MANY], proved.LARGEST]:
-            compare_refused(ours, r, long._replace(chain_count=other), r.choice([length, 2000]), compare)
+            compare_refused(ours, r, dataclasses.replace(long, chain_count=other), r.choice([length, 2000]), compare)
         compare.must_meet(8)
         for c in range(len(chains)):
             for other in [0, 13, 14, 40, *[schedule.places[c] + many for many in inputs.MANY], proved.LARGEST]:
-                compare_refused(ours, r, long._replace(places=inputs.replaced(long.places, c, other)), r.choice([length, 2000]), compare)
+                compare_refused(ours, r, dataclasses.replace(long, places=inputs.replaced(long.places, c, other)), r.choice([length, 2000]), compare)
             compare.must_meet(8)
     for _ in range(int(3000 * factor)):
         schedule = inputs.several_faults(r)
@@ -668,20 +669,20 @@ def cut_short(r, schedule):
         (tasks - 1, least - 1, last),
         (0, 0, 0),
     ):
-        behind = schedule._replace(lengths=lengths)
+        behind = dataclasses.replace(schedule, lengths=lengths)
         yield behind
-        yield schedule._replace(tasks=schedule.tasks[:lengths[0]], chains=schedule.chains[:lengths[1]], places=schedule.places[:lengths[2]])
+        yield dataclasses.replace(schedule, tasks=schedule.tasks[:lengths[0]], chains=schedule.chains[:lengths[1]], places=schedule.places[:lengths[2]])
     # One to three numbers more than whole tasks.
-    yield schedule._replace(tasks=schedule.tasks + [r.randint(1, 9) for _ in range(r.choice([1, 2, 3, 5]))])
+    yield dataclasses.replace(schedule, tasks=schedule.tasks + [r.randint(1, 9) for _ in range(r.choice([1, 2, 3, 5]))])
 
 
 def just_held(r, schedule):
     """The schedule in lists that just hold it, in memory that goes on or not, and in longer ones."""
     tasks, last = 4 * schedule.count, schedule.chain_count - 1
     least = proved.ROW * last + schedule.places[last]
-    yield schedule._replace(lengths=(tasks, least, last + 1))
-    yield schedule._replace(tasks=schedule.tasks[:tasks], chains=schedule.chains[:least], places=schedule.places[:last + 1])
-    yield schedule._replace(chains=schedule.chains + [inputs.any_number(r) for _ in range(r.randint(1, 60))], places=schedule.places + [inputs.any_number(r)] * r.randint(1, 9))
+    yield dataclasses.replace(schedule, lengths=(tasks, least, last + 1))
+    yield dataclasses.replace(schedule, tasks=schedule.tasks[:tasks], chains=schedule.chains[:least], places=schedule.places[:last + 1])
+    yield dataclasses.replace(schedule, chains=schedule.chains + [inputs.any_number(r) for _ in range(r.randint(1, 60))], places=schedule.places + [inputs.any_number(r)] * r.randint(1, 9))
 
 
 @group
@@ -693,7 +694,7 @@ def lists_of_schedules(ours, r, factor, compare):
         schedule, out = inputs.lent_schedule(r, tasks, chains, inputs.file_gap(r)), r.randbytes(r.choice([0, 700]))
         for short in cut_short(r, schedule):
             # 8 comes before a fault of the gap.
-            short = short._replace(gap=r.choice([schedule.gap, r.choice(inputs.FAULTY_GAPS)]))
+            short = dataclasses.replace(short, gap=r.choice([schedule.gap, r.choice(inputs.FAULTY_GAPS)]))
             compare.same(reference.schedule_fault(*told(short)), eight, "lists", short)
             compare.same(ours.write_file(short, out), (eight, out), "lists", short)
             number = r.choice([1, len(chains), 0, proved.LARGEST])
@@ -766,10 +767,10 @@ def chosen_chains(ours, r, factor, compare):
             # A fault in any task, in any chain or of the gap is one of every chain.
             c = r.randrange(len(chains))
             faulty = r.choice([
-                schedule._replace(tasks=inputs.replaced(schedule.tasks, 4 * r.randrange(schedule.count) + 1, 0)),
-                schedule._replace(chains=inputs.replaced(schedule.chains, proved.ROW * c, 0)),
-                schedule._replace(places=inputs.replaced(schedule.places, c, 13)),
-                schedule._replace(gap=r.choice(inputs.FAULTY_GAPS)),
+                dataclasses.replace(schedule, tasks=inputs.replaced(schedule.tasks, 4 * r.randrange(schedule.count) + 1, 0)),
+                dataclasses.replace(schedule, chains=inputs.replaced(schedule.chains, proved.ROW * c, 0)),
+                dataclasses.replace(schedule, places=inputs.replaced(schedule.places, c, 13)),
+                dataclasses.replace(schedule, gap=r.choice(inputs.FAULTY_GAPS)),
             ])
             compare_analyses(ours, r, faulty, r.choice([1, len(chains), 0, 9]), chains[0], compare)
     compare.must_meet("ok", 5, OF_GAP, 6, 7, 8, 16, *LINKS)
@@ -872,17 +873,17 @@ def bookings_refused(ours, r, factor, compare):
         beyond = r.choice(inputs.FAULTY_GAPS)
         faulty = [
             schedule,
-            schedule._replace(count=0),
-            schedule._replace(chain_count=5),
-            schedule._replace(places=inputs.replaced(schedule.places, 3, 13)),
-            schedule._replace(tasks=inputs.replaced(schedule.tasks, 4 * schedule.count - 2, 0)),
-            schedule._replace(chains=inputs.replaced(schedule.chains, 36, 0)),
-            schedule._replace(tasks=inputs.replaced(schedule.tasks, 1, 0), chains=inputs.replaced(schedule.chains, 0, 0)),
-            schedule._replace(chain_count=0, tasks=inputs.replaced(schedule.tasks, 1, 0)),
-            schedule._replace(gap=beyond),
-            schedule._replace(gap=beyond, chains=inputs.replaced(schedule.chains, 36, 0)),
-            schedule._replace(gap=beyond, tasks=inputs.replaced(schedule.tasks, 4 * schedule.count - 2, 0)),
-            schedule._replace(gap=4),
+            dataclasses.replace(schedule, count=0),
+            dataclasses.replace(schedule, chain_count=5),
+            dataclasses.replace(schedule, places=inputs.replaced(schedule.places, 3, 13)),
+            dataclasses.replace(schedule, tasks=inputs.replaced(schedule.tasks, 4 * schedule.count - 2, 0)),
+            dataclasses.replace(schedule, chains=inputs.replaced(schedule.chains, 36, 0)),
+            dataclasses.replace(schedule, tasks=inputs.replaced(schedule.tasks, 1, 0), chains=inputs.replaced(schedule.chains, 0, 0)),
+            dataclasses.replace(schedule, chain_count=0, tasks=inputs.replaced(schedule.tasks, 1, 0)),
+            dataclasses.replace(schedule, gap=beyond),
+            dataclasses.replace(schedule, gap=beyond, chains=inputs.replaced(schedule.chains, 36, 0)),
+            dataclasses.replace(schedule, gap=beyond, tasks=inputs.replaced(schedule.tasks, 4 * schedule.count - 2, 0)),
+            dataclasses.replace(schedule, gap=4),
         ]
         numbers = [0, 1, 2, 3, 4, 5, proved.LARGEST]
         for lent, first, second in itertools.product(faulty, numbers, numbers):

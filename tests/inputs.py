@@ -1,4 +1,5 @@
 """Random, boundary and damaged inputs. Every draw comes from the generator that is passed in."""
+import dataclasses
 import itertools
 import math
 import struct
@@ -737,15 +738,15 @@ def several_faults(r):
         chain[r.randrange(len(chain))] = r.choice([0, MOST_NUMBER, any_number(r), 2**32 + known])
     lent = lent_schedule(r, tasks, chains, r.choice(FAULTY_GAPS) if r.random() < 0.2 else file_gap(r))
     if r.random() < 0.1:
-        lent = lent._replace(count=r.choice([0, 33, LARGEST, r.choice(MANY) + lent.count]))
+        lent = dataclasses.replace(lent, count=r.choice([0, 33, LARGEST, r.choice(MANY) + lent.count]))
     if r.random() < 0.1:
-        lent = lent._replace(chain_count=r.choice([0, 5, 6, LARGEST, r.choice(MANY) + lent.chain_count]))
+        lent = dataclasses.replace(lent, chain_count=r.choice([0, 5, 6, LARGEST, r.choice(MANY) + lent.chain_count]))
     if r.random() < 0.15:
         c = r.randrange(len(chains))
-        lent = lent._replace(places=replaced(lent.places, c, r.choice([0, 13, LARGEST, r.choice(MANY) + lent.places[c]])))
+        lent = dataclasses.replace(lent, places=replaced(lent.places, c, r.choice([0, 13, LARGEST, r.choice(MANY) + lent.places[c]])))
     if r.random() < 0.1:
         # Shorter lists, with the rest in memory past them.
-        lent = lent._replace(lengths=tuple(r.choice([None, r.randint(0, len(numbers))]) for numbers in (lent.tasks, lent.chains, lent.places)))
+        lent = dataclasses.replace(lent, lengths=tuple(r.choice([None, r.randint(0, len(numbers))]) for numbers in (lent.tasks, lent.chains, lent.places)))
     return lent
 
 

@@ -1,4 +1,4 @@
-"""The curve and the page of ./meshorchard: what is drawn against the reference, and the page in a browser where one is installed.
+"""The curve and the page of ./meshorchard: what is drawn and said against the reference.
 
     python3 tests/pictures.py [--count FACTOR] [--seed SEED]
 
@@ -12,7 +12,6 @@ import math
 import os
 import random
 import re
-import shutil
 import subprocess
 import sys
 import tempfile
@@ -136,6 +135,7 @@ def check_columns(root, tasks, gap, x0, h, across, up, anchors):
         near(top, up(most), "the greatest delay in a column", tasks, gap, start, stop)
         # The low of a column is not reached: it is where the least delay has fallen to at the end of its tick.
         near(bottom, up(fewest - 1), "the low of a column", tasks, gap, start, stop)
+        same(f"delays up to {most:,} µs" in title(column) and f"above {fewest - 1:,} µs" in title(column), True, "the title of a column", title(column), most, fewest)
     same(at, x0 + h, "the last column", tasks)
     return len(columns)
 
@@ -286,13 +286,38 @@ def check_way(root, tasks, gap, press, numbers, frame):
         near(float(bar.get("x")), across(read - press), "the read of a job", tasks, press, place)
         near(float(bar.get("width")), max(2, across(write) - across(read)), "the length of a job", tasks, press, place)
         same(title(bar).startswith(f"place {place}, task {numbers[place - 1]}, job {number:,}: reads at {read:,} µs"), True, "the title of a job", title(bar))
-        check_others([int(bar.get("data-other")) for bar in bars if bar.get("data-place") == str(place) and bar.get("data-other")], number, tasks[place - 1], press, across, frame)
+        check_others([bar for bar in bars if bar.get("data-place") == str(place) and bar.get("data-other")], number, tasks[place - 1], press, across, frame)
+    rows = [float(bar.get("y")) + float(bar.get("height")) / 2 for bar in bars if bar.get("data-job")]
+    check_links(root, jobs, gap, press, across, rows)
     return len(bars)
 
 
-def check_others(drawn_jobs, number, task, press, across, frame):
+def check_links(root, jobs, gap, press, across, rows):
+    """The lines from each write to the next read, the gaps, the press and the booking."""
+    paths = {kind: [points(path) for path in root.iter(f"{SVG}path") if path.get("class") == kind] for kind in ("line delay-line", "line dotted mean-line", "line greatest-line")}
+    links = list(zip(jobs, jobs[1:], rows, rows[1:]))
+    wanted = [[(across(one[2] - press), here), (across(one[2] - press), there), (across(two[1] - press), there)] for one, two, here, there in links]
+    gaps = [[(across(one[2] - press), here), (across(one[2] + gap - press), here)] for one, _, here, _ in links if gap]
+    booked = jobs[-1][2] - press
+    same((len(paths["line delay-line"]), len(paths["line dotted mean-line"]), len(paths["line greatest-line"])), (len(wanted), len(gaps), 2), "lines of a way")
+    for drawn_line, right in zip(paths["line delay-line"] + paths["line dotted mean-line"], wanted + gaps):
+        for (x, y), (other, row) in zip(drawn_line, right):
+            near(x, other, "a link", jobs)
+            near(y, row, "the row of a link", jobs)
+    for end, tick in zip(paths["line greatest-line"], (0, booked)):
+        near(end[0][0], across(tick), "the press or the booking", jobs)
+    same([text.text for text in of_class(root, "greatest") if text.tag == f"{SVG}text"], ["press", f"booked {shown(booked)} later"], "what is said of the ends")
+
+
+def check_others(drawn_bars, number, task, press, across, frame):
     """The other jobs of a row: all that write after its beginning and read before its end, or none where they are more than 80. What does so just at an end may be drawn or not."""
     t, d, f = task
+    drawn_jobs = [int(bar.get("data-other")) for bar in drawn_bars]
+    for bar, job in zip(drawn_bars, drawn_jobs):
+        begin, end = max(frame[1], across(f + job * t - press)), min(frame[2], across(f + job * t + d - press))
+        near(float(bar.get("x")), begin, "another job", task, press, job)
+        # A hair's breadth is left between two jobs.
+        near(float(bar.get("width")), max(1, end - begin - 1), "the length of another job", task, press, job)
     ends = [press + float(across.first) + (edge - across.start) / across.each for edge in frame[1:3]]
     wide = NEAR / across.each
     seen, inner = (range(max(0, math.ceil((ends[0] - by - f - d) / t)), math.floor((ends[1] + by - f) / t) + 1) for by in (wide, -wide))
@@ -324,13 +349,33 @@ def shown(ticks):
     return f"{'' if rounded == value else '≈ '}{text} {unit}"
 
 
-def check_page(text, chains, numbers, gap):
+def check_schedule(text, schedule, gap):
+    """The table of the tasks and the gap, as the page has them."""
+    unit = {"µs": 1, "ms": 1000}[re.search("times in (.*):", text)[1]]
+    cells = [re.findall("<td>(.*?)</td>", row) for row in re.findall("<tr><td>.*?</tr>", text)]
+    rows = [(int(number), *[Fraction(cell.replace(",", "")) * unit for cell in values]) for number, *values in cells]
+    same(rows, [tuple(task) for task in schedule], "the tasks of the page")
+    same(re.search(r"(?:no gap|gap ([0-9,]+) µs)", text)[1], f"{gap:,}" if gap else None, "the gap of the page")
+
+
+def figures_sentence(x0, h, top, low, mean, anchors):
+    """The figures of a chain in words."""
+    return (
+        f"<p>From {shown(x0)} on, when the chain has warmed up, a press waits at most <b>{shown(top)}</b> until it is booked, always longer than <b>{shown(low)}</b>, and "
+        f"<b>{shown(mean)}</b> on average. The delays repeat every {shown(h)}, and their table has {anchors:,} anchor{'' if anchors == 1 else 's'}.</p>"
+    )
+
+
+def check_page(text, schedule, chains, numbers, gap, bound=None, jobs=10):
     """A page's figures and pictures, chain by chain. How many were looked at."""
     sections, looked = re.findall(r"<section>\n<h2>Chain .*?</section>", text, re.DOTALL), 0
+    check_schedule(text, schedule, gap)
     same(len(sections), len(chains), "chains of the page")
-    for section, tasks, names in zip(sections, chains, numbers):
+    for c, (section, tasks, names) in enumerate(zip(sections, chains, numbers), start=1):
+        same(re.search("<h2>(.*?)</h2>", section)[1], f"Chain {c}: task{'' if len(names) == 1 else 's'} {' → '.join(map(str, names))}", "the heading of a chain")
         if reference.check_chain(tasks, gap)[0] != "ok":
-            same('class="refused"' in section, True, "a refused chain")
+            periods = sorted({f"{t:,}" for t, _, _ in tasks})
+            same(f"Chain {c} is refused with 7: " in section and all(period in section for period in periods), True, "a refused chain", section)
             continue
         _, _, x0, h = reference.warm_up(tasks, gap)
         anchors = reference.anchors(tasks, gap, cut(tasks))
@@ -339,22 +384,27 @@ def check_page(text, chains, numbers, gap):
         found = dict(re.findall(r"<dt>(.*?)</dt><dd>(.*?)</dd>", section))
         wanted = {"greatest delay": shown(top), "mean delay": shown(Fraction(*area)), "low, not reached": shown(reference.low(*table)[1])}
         same(found, {**wanted, "hyperperiod": shown(h), "warm-up tick": shown(x0), "anchors": f"{len(anchors):,}"}, "figures", tasks)
+        same(figures_sentence(x0, h, top, reference.low(*table)[1], Fraction(*area), len(anchors)) in section, True, "figures in words", tasks)
         worst = next(start for start, latency in anchors if latency == top)
+        same(f"<h3>The way of the worst press, at {shown(worst)}</h3>" in section, True, "the worst press", worst)
+        same("is refused with 11 in a report" in section, len(anchors) > 1024, "a table for which a report has no room", tasks)
         pictures = [ElementTree.fromstring(picture) for picture in re.findall(r"<svg.*?</svg>", section, re.DOTALL)]
         looked += check_curve(pictures[0], tasks, gap) + check_curve(pictures[1], tasks, gap)
         looked += check_way(pictures[2], tasks, gap, worst, names, timeline.WIDE) + check_way(pictures[3], tasks, gap, worst, names, timeline.NARROW)
-        looked += check_bounds(section, tasks, gap, table, top * 95 // 100)
+        looked += check_bounds(section, tasks, gap, table, top * 95 // 100 if bound is None else bound, jobs)
+        same(("Against the chosen bound: " in section, "Against a bound of 95 %" in section), (bound is not None, bound is None), "which bound")
     return looked + check_pairs(text, chains, gap)
 
 
-def check_bounds(section, tasks, gap, table, bound):
+def check_bounds(section, tasks, gap, table, bound, jobs):
     """The longest exceedance and the windows of a bound, as the page words them."""
-    run, (misses, first) = reference.exceedance(*table, bound)[1], reference.windows(tasks, gap, bound, 10)[1:]
+    run, (misses, first) = reference.exceedance(*table, bound)[1], reference.windows(tasks, gap, bound, jobs)[1:]
+    same(f": {shown(bound)}</h3>" in section, True, "the bound", bound)
     wanted = f"No press waits longer than {shown(bound)}." if run == 0 else f"Every press waits longer than {shown(bound)}."
     if run not in (0, "endless"):
         wanted = f"The longest time over which every press waits longer than {shown(bound)} is {shown(run)}."
     same(wanted in section, True, "the longest exceedance", wanted)
-    wanted = f"at most {misses} of 10 jobs" if misses else "After the warm-up no job of the first place takes longer"
+    wanted = f"at most {misses} of {jobs} jobs" if misses else "After the warm-up no job of the first place takes longer"
     same(wanted in section and (not misses or f"begins with job {first:,}." in section), True, "windows", wanted, first)
     return 2
 
@@ -382,12 +432,17 @@ def pages(r, factor):
         with open(name, "rb") as file:
             made = page.of_schedule("a page", calls.read_file(file.read()), None, 10)
         same(bool(made.refusals), any(reference.check_chain(tasks, gap)[0] != "ok" for tasks in chains), "a refused chain", name)
-        yield check_page(made.text(), chains, numbers, gap)
+        yield check_page(made.text(), reference.read_file(bytes_of(name))[1], chains, numbers, gap)
+    # A table for which a report has no room.
+    crowded = [(1, 1030, 9, 0), (2, 1031, 5, 3)]
+    yield check_page(page.of_schedule("a page", Schedule.of(crowded, [[1, 2]], 0), None, 10).text(), crowded, [[task[1:] for task in crowded]], [[1, 2]], 0)
     for _ in range(int(12 * factor)):
         chains = [inputs.cut_chain(r)[:8] for _ in range(r.randint(1, 4))]
         gap = inputs.some_gap(r, *chains)
         tasks, numbers = inputs.numbered(r, chains)
-        yield check_page(page.of_schedule("a page", Schedule.of(tasks, numbers, gap), None, 10).text(), chains, numbers, gap)
+        bound, jobs = r.choice([None, r.randint(0, 100)]), r.randint(2, 100)
+        made = page.of_schedule("a page", Schedule.of(tasks, numbers, gap), bound, jobs)
+        yield check_page(made.text(), tasks, chains, numbers, gap, bound, jobs)
 
 
 def main():

@@ -19,7 +19,7 @@ FENCE = bytes(range(0xA0, 0xB0))
 
 def build():
     """The shared object that the package loads."""
-    subprocess.run([os.path.join(TOP, "host", "library")], check=True, stderr=subprocess.DEVNULL)
+    subprocess.run([os.path.join(TOP, "host", "library")], check=True)
 
 
 def answered(call, *arguments):
@@ -30,7 +30,8 @@ def answered(call, *arguments):
         return ("refused", refused.number, refused.place, *(() if refused.made is None else dataclasses.astuple(refused.made)))
     except Broken as broken:
         return ("broken", str(broken))
-    return ("ok", *(dataclasses.astuple(found) if dataclasses.is_dataclass(found) else (found,)))
+    as_it_is = not dataclasses.is_dataclass(found) or isinstance(found, (Chain, Schedule))
+    return ("ok", *((found,) if as_it_is else dataclasses.astuple(found)))
 
 
 # The calls on a lent chain: a flat list, the number of places and the gap.
@@ -93,7 +94,7 @@ def exceedance(table, bound):
 
 def lent(schedule):
     """The schedule in lists that the call sees as they are, so that what it wrote to them would be seen."""
-    return schedule._replace(tasks=array("Q", schedule.tasks), chains=array("Q", schedule.chains), places=array("Q", schedule.places))
+    return dataclasses.replace(schedule, tasks=array("Q", schedule.tasks), chains=array("Q", schedule.chains), places=array("Q", schedule.places))
 
 
 def asked(call, schedule, *arguments):

@@ -10,6 +10,7 @@ import argparse
 import ast
 import collections
 import concurrent.futures
+import ctypes
 import dataclasses
 import functools
 import glob
@@ -38,7 +39,9 @@ import inputs
 import meshorchard_reference as reference
 import proved
 import report as reports
-from meshorchard import Chain, Refused, Schedule, Table, calls, command
+from meshorchard import Broken, Chain, Refused, Schedule, Table, analysis, calls, command, words
+from meshorchard import page as pages
+from meshorchard import streams as streams_of
 
 PROGRAM = os.path.join(TOP, "meshorchard")
 EXAMPLES = sorted(glob.glob(os.path.join(TOP, "examples", "*.schedule")))
@@ -268,7 +271,7 @@ def ticks_of(r, file, c):
 
 
 def ways_cases(r, file):
-    """delay and age of each chain, and of chains that there are not."""
+    """delay and age of each chain, and of chains that there are not. A refusal has its reason in words."""
     for c in range(1, len(file.chains) + 1):
         for t in ticks_of(r, file, c):
             # Chain 1 need not be named.
@@ -276,8 +279,28 @@ def ways_cases(r, file):
             for word, says, ends, right in (("delay", "the delay is", "booked", delay_right), ("age", "the newest reading is", "read", age_right)):
                 answer = called(word, file.path, t, *named)
                 yield f"{word} {file.path} {t} chain {c}", refused_with(answer) if answer.status else way_of(answer, says, ends), right(file, c, t)
+                if answer.status:
+                    yield f"{word} {file.path} {t} chain {c}, in words: {answer.err}", lacking(answer, reasons(file, refused_with(answer)[1], c)), []
     for word, c in itertools.product(("delay", "age"), (0, len(file.chains) + 1, 2**64 - 1)):
         yield f"{word} of chain {c}", refused_with(called(word, file.path, 10**6, c)), (1, 16, None)
+
+
+def reasons(file, refusal, *chains):
+    """What the words on a refusal of one chain, or of two, must have in them."""
+    warm = [reference.warm_up(file.places(c), file.gap) for c in chains]
+    if refusal == 7 and len(chains) == 1:
+        return [f"{t:,}" for t, _, _ in file.places(*chains)] + ["60,000,000"]
+    if refusal == 7:
+        return next(([f"hyperperiod of chain {c} alone"] for c, each in zip(chains, warm) if each[0] != "ok"), ["their common hyperperiod"])
+    if refusal == 12 and len(chains) == 1:
+        return [f"a delay from tick {warm[0][2]:,} on", f"an age from tick {first_leg(file.places(*chains), warm[0]):,} on"]
+    if refusal == 12:
+        return [f"Chain {chains[0]} has delays from tick {warm[0][2]:,} on, chain {chains[1]} from tick {warm[1][2]:,} on"]
+    return {13: ["1,000,000,000,000"], 15: ["1 to 100"]}[refusal]
+
+
+def lacking(answer, pieces):
+    return [piece for piece in pieces if piece not in answer.err]
 
 
 def pair_of(answer):
@@ -308,6 +331,8 @@ def pair_cases(r, file):
         for t in r.sample(ticks_of(r, file, n) + ticks_of(r, file, m), 3):
             right = reference.bookings_of(len(file.tasks), file.tasks, count, counted, file.gap, n, m, t)
             answer = called("pair", file.path, t, n, m)
+            if answer.status:
+                yield f"pair {file.path} {t} {n} {m}, in words: {answer.err}", lacking(answer, reasons(file, refused_with(answer)[1], n, m)), []
             yield f"pair {file.path} {t} {n} {m}", refused_with(answer) if answer.status else pair_of(answer), (t, n, m, *right[1:], *bookers(file, n, m, t)) if right[0] == "ok" else (1, right[1], None)
     yield f"pair {file.path} of no chain", refused_with(called("pair", file.path, 10**6, 1, count + 1)), (1, 16, None)
     yield f"pair {file.path} of chain 0", refused_with(called("pair", file.path, 10**6, 0, 1)), (1, 16, None)
@@ -337,6 +362,8 @@ def windows_cases(r, file):
             bound = r.choice([0, 2**64 - 1, sum(place[1] for place in places), sum(place[0] + place[1] for place in places)])
             right = reference.windows(places, file.gap, bound, k)
             answer = called("windows", file.path, bound, k, "--chain", c)
+            if answer.status:
+                yield f"windows {file.path} {bound} {k} of chain {c}, in words: {answer.err}", lacking(answer, reasons(file, refused_with(answer)[1], c)), []
             expected = (c, bound, *((right[1], k, right[2]) if right[1] else (0,))) if right[0] == "ok" else (1, right[1], None)
             yield f"windows {file.path} {bound} {k} of chain {c}", refused_with(answer) if answer.status else windows_of(answer), expected
 
@@ -366,6 +393,10 @@ def picture_cases(folder, file, statuses):
             os.remove(out)
     answer = called("page", file.path, "-o", out, "--bound", 5000, "--jobs", 7)
     yield f"page {file.path}", (answer.status, page_faults(content(out) or b"")), (statuses[-1], None)
+    # What a page says of a bound is looked at in pictures.py; here, that the chosen one comes to it.
+    made = pages.of_schedule(streams_of.title_of(file.path), calls.read_file(file.data), 5000, 7)
+    yield f"page {file.path} with a bound", content(out) == made.text().encode(), True
+    yield f"what is said beside the page of {file.path}", answer.err.splitlines(), made.refusals
     os.remove(out)
 
 
@@ -380,7 +411,7 @@ def accepted_cases(r, folder, file):
     yield from ways_cases(r, file)
     yield from pair_cases(r, file)
     yield from windows_cases(r, file)
-    yield from picture_cases(folder, file, [*map(int, chains), int(any(chains) or no_common(file))])
+    yield from picture_cases(folder, file, [*map(int, chains), int(any(chains) or no_common(file) or not all(chain[-1] for chain in check_right(file)[3]))])
 
 
 def no_common(file):
@@ -594,7 +625,7 @@ ONE = "task 1 period 4 duration 4 phase 0\n"
 TWO = ONE + "task 7 period 6 duration 6 phase 0\n"
 FULL = TWO + "chain 1 7\n"
 ALL = "".join(f"task {n} period 4 duration 4 phase 0\n" for n in range(1, 33))
-PERIOD, DURATION, PHASE, GAP_LIMIT, NUMBER_LIMIT = "1 to 1,000,000 ticks", "1 to 4,000,000 ticks", "0 to 1,000,000 ticks", "1,000 ticks", "1 to 65,535"
+PERIOD, DURATION, PHASE, GAP_LIMIT, NUMBER_LIMIT = "1 to 1,000,000 ticks, up to 1 s", "1 to 4,000,000 ticks, up to 4 s", "0 to 1,000,000 ticks, up to 1 s", "1,000 ticks, 1 ms", "1 to 65,535"
 
 
 def with_period(word):
@@ -653,9 +684,10 @@ WRONG_NUMBERS = [(with_period(word), 1, word, piece) for word, piece in (
     ("1.2.3ms", PERIOD), ("1,5ms", "thousands"), ("1001ms", PERIOD), ("1.000001s", PERIOD), ("2s", PERIOD), ("0ms", PERIOD), ("-1ms", PERIOD), ("ms", PERIOD),
     ("=4", PERIOD), ("4;", "us, ms and s"),
 )] + [
-    ("task 1 period 4 minutes duration 4 phase 0\n", 1, "minutes", "us, ms or s"), ("task 1 period 4ms ms duration 4 phase 0\n", 1, "4ms", "two units"),
+    ("task 1 period 4 minutes duration 4 phase 0\n", 1, "minutes", "us, ms or s"), ("task 1 period 4ms ms duration 4 phase 0\n", 1, "4ms ms", "two units"),
     ("task 1 period 4 ms ms duration 4 phase 0\n", 1, "ms", "'duration'"),
-    ("task 1 period 4 duration 4ms us phase 0\n", 1, "4ms", "two units"), ("task 1 period 1 000 duration 4 phase 0\n", 1, "000", "'duration'"),
+    ("task 1 period 4 duration 4ms us phase 0\n", 1, "4ms us", "two units"),
+    (FULL + "gap 10 ms\n", 4, "10 ms", GAP_LIMIT), ("task 1 period 40 s duration 4 phase 0\n", 1, "40 s", PERIOD), ("task 1 period 1 000 duration 4 phase 0\n", 1, "000", "'duration'"),
     ("task 1 period 4 duration 0 phase 0\n", 1, "0", DURATION),
     ("task 1 period 4 duration 4000001 phase 0\n", 1, "4000001", DURATION), ("task 1 period 4 duration -1 phase 0\n", 1, "-1", DURATION),
     ("task 1 period 4 duration 4.000001s phase 0\n", 1, "4.000001s", DURATION),
@@ -676,7 +708,7 @@ WRONG_NUMBERS = [(with_period(word), 1, word, piece) for word, piece in (
     (TWO + "chain 18446744073709551617\n", 3, "18446744073709551617", NUMBER_LIMIT), (FULL + "gap 1001\n", 4, "1001", GAP_LIMIT),
     (FULL + "gap 1.001ms\n", 4, "1.001ms", GAP_LIMIT), (FULL + "gap -1\n", 4, "-1", GAP_LIMIT),
     (FULL + "gap 0.5us\n", 4, "0.5us", "whole number of ticks"), (FULL + "gap 65537\n", 4, "65537", GAP_LIMIT), (FULL + "gap x\n", 4, "x", GAP_LIMIT),
-    (FULL + "gap 1 us us\n", 4, "us", "nothing"), (FULL + "gap 1us us\n", 4, "1us", "two units"),
+    (FULL + "gap 1 us us\n", 4, "us", "nothing"), (FULL + "gap 1us us\n", 4, "1us us", "two units"),
     # A unit was meant, and only a unit may follow.
     (FULL + "gap 3 min\n", 4, "min", "us, ms"), ("task 1 period 4 duration 4 phase 5 min\nchain 1\n", 1, "min", "us, ms"),
 ]
@@ -734,8 +766,17 @@ NAMES = ("number", "period", "duration", "phase")
 LIMIT_WORDS = dict(zip(NAMES, (NUMBER_LIMIT, PERIOD, DURATION, PHASE)))
 # What `explain` must say of the limits of a refusal.
 EXPLAINED = {
-    2: ("18 bytes", "1 to 12 places", "the gap 6", "the end 4"), 4: ("1 to 32 tasks", "1 to 4 chains"), 5: ("1 to 65,535", "1 to 1,000,000", "1 to 4,000,000", "0 to 1,000,000", "1,000 ticks"),
-    7: ("60,000,000",), 8: ("1 to 32", "1 to 4", "1 to 12"), 11: ("698", "1,024"), 13: ("1,000,000,000,000",), 14: ("1,000,000,000", "60,011,000"), 15: ("1 to 100",),
+    1: ("ends early", "end record"), 2: ("length", "18 bytes", "1 to 12 places", "the gap 6", "the end 4"), 3: ("unknown kind", "1 for a task", "2 for a chain", "3 for the end", "4 for the gap"),
+    4: ("may not stand", "1 to 32 tasks", "1 to 4 chains"), 5: ("outside its limits", "1 to 65,535", "1 to 1,000,000", "1 to 4,000,000", "0 to 1,000,000", "1,000 ticks"),
+    6: ("names a task",), 7: ("hyperperiod is too long", "60,000,000"), 8: ("too many or too few", "1 to 32", "1 to 4", "1 to 12"), 9: ("the cut is at no place",),
+    10: ("starts and the latencies differ in length",), 11: ("too little room", "698", "1,024"), 12: ("too early", "warm-up tick"), 13: ("too late", "1,000,000,000,000"),
+    14: ("not well-formed", "1,000,000,000", "60,011,000"), 15: ("window is outside", "1 to 100"), 16: ("no chain of that number", "from 1"),
+}
+# What it must say of a place, and what it must not.
+PLACES = {
+    (5, 18): (("begins at byte 18", "task 18 of the schedule"), "of the chain"), (5, 3): (("begins at byte 3", "task 3 of the schedule", "place 3 of the chain"), "gap."),
+    (5, 0): (("begins at byte 0", "the gap."), "task 0"), (6, 3): (("begins at byte 3", "place 3 of the first chain"), "task 3"), (6, 18): (("begins at byte 18",), "of the first chain"),
+    (4, 50): (("begins at byte 50", "after the end"), "schedule:"), (7, 0): (("of the whole",), "byte"), (7, 3): (("no place but 0",), "byte"),
 }
 
 
@@ -789,6 +830,9 @@ def at_limits(r, factor):
     # The words of explain have the limits of the header too.
     for refusal, pieces in EXPLAINED.items():
         yield f"explain {refusal}", [piece for piece in pieces if not re.search(rf"(?<![0-9,]){piece}(?![0-9]|,[0-9])", called("explain", refusal).text())], []
+    for (refusal, place), (pieces, other) in PLACES.items():
+        said = "\n".join(called("explain", refusal, place).text().splitlines()[1:-1])
+        yield f"explain {refusal} {place}: {said}", ([piece for piece in pieces if piece not in said], other in said), ([], False)
 
 
 # ---- 5: refused files in words
@@ -946,8 +990,9 @@ ANSWERS = {
     "exceedance": ((TABLE_A, 15), (3, False)),
     "check": ((CHAIN_A,), 12), "warm_up": ((CHAIN_A,), ((0, 1), 0, 12)), "delay": ((CHAIN_A, 0), 18), "age": ((CHAIN_A, 12), 12),
     "make_table": ((CHAIN_A, 1, array("Q", bytes(24)), array("Q", bytes(24))), (2, 0, 12, 3)),
-    "windows": ((CHAIN_A, 13, 3), reference.windows([(4, 4, 0), (6, 6, 0)], 0, 13, 3)[1:]), "read_file": ((FILE_A,), None),
-    "write_file": ((SCHEDULE_A, bytearray(698)), len(FILE_A)), "chain_of_schedule": ((SCHEDULE_A, 1), None), "bookings": ((SCHEDULE_A, 1, 2, 0), None),
+    "windows": ((CHAIN_A, 13, 3), reference.windows([(4, 4, 0), (6, 6, 0)], 0, 13, 3)[1:]), "read_file": ((FILE_A,), ([1, 4, 4, 0, 2, 6, 6, 0, *[0] * 120], 2, [1, 2, *[0] * 10, 2, *[0] * 35], [2, 1, 0, 0], 2, 0, (None, None, None))),
+    "write_file": ((SCHEDULE_A, bytearray(698)), len(FILE_A)), "chain_of_schedule": ((SCHEDULE_A, 1), ([4, 4, 0, 6, 6, 0], 2, 0)),
+    "bookings": ((SCHEDULE_A, 1, 2, 0), reference.bookings([(4, 4, 0), (6, 6, 0)], 0, [(6, 6, 0)], 0, 0)[1:]),
     "report": ((FILE_A, bytearray(92000)), len(reference.report(FILE_A))),
 }
 # What each refusal comes from: a call and its arguments, with the place.
@@ -956,7 +1001,7 @@ REFUSALS = {
     9: (calls.make_table, (CHAIN_A, 3, array("Q", bytes(8)), array("Q", bytes(8))), 0),
     10: (calls.make_table, (CHAIN_A, 1, array("Q", bytes(8)), array("Q", bytes(16))), 0),
     11: (calls.make_table, (CHAIN_A, 1, array("Q", bytes(8)), array("Q", bytes(8))), 0), 12: (calls.age, (CHAIN_A, 11), 0),
-    13: (calls.delay, (CHAIN_A, 10**12 + 1), 0), 14: (calls.greatest, (TABLE_A._replace(hyperperiod=0),), 0), 15: (calls.windows, (CHAIN_A, 5, 101), 0),
+    13: (calls.delay, (CHAIN_A, 10**12 + 1), 0), 14: (calls.greatest, (dataclasses.replace(TABLE_A, hyperperiod=0),), 0), 15: (calls.windows, (CHAIN_A, 5, 101), 0),
     16: (calls.chain_of_schedule, (SCHEDULE_A, 3), 0),
     5: (calls.check, (Chain.of([(4, 4, 0), (0, 6, 0)]),), 2), 6: (calls.write_file, (Schedule.of([(1, 4, 4, 0)], [[1, 1, 9]]), bytearray(698)), 3),
     1: (calls.read_file, (FILE_A[:-1],), len(FILE_A) - 4), 2: (calls.read_file, (b"\3\0\1\0",), 0), 3: (calls.read_file, (b"\4\0\5\0",), 0),
@@ -965,8 +1010,8 @@ REFUSALS = {
 
 
 def shape(found):
-    """An answer as plain numbers, with None for those that are looked at elsewhere."""
-    return dataclasses.astuple(found) if dataclasses.is_dataclass(found) else None if isinstance(found, (Chain, Schedule)) else found
+    """An answer as plain numbers."""
+    return dataclasses.astuple(found) if dataclasses.is_dataclass(found) else found
 
 
 def declared_cases():
@@ -980,7 +1025,7 @@ def declared_cases():
         yield f"calls.{name} is a typed function", typed, True
         arguments, right = ANSWERS[name]
         found = function(*arguments)
-        yield f"calls.{name}", shape(found) if name != "bookings" else found.later == 18 and dataclasses.is_dataclass(found), right if name != "bookings" else True
+        yield f"calls.{name}", shape(found), right
         yield f"calls.{name} answers what its type says", isinstance(found, eval(function.__annotations__["return"], vars(calls))), True
     yield "calls.read_file", (calls.read_file(FILE_A).task_list(), calls.read_file(FILE_A).chain_list()), ([(1, 4, 4, 0), (2, 6, 6, 0)], [[1, 2], [2]])
 
@@ -1005,12 +1050,12 @@ def beyond():
             (calls.read_table, TABLE_A, value), (calls.exceedance, TABLE_A, value),
             (calls.make_table, CHAIN_A, value, array("Q", bytes(8)), array("Q", bytes(8))), (calls.chain_of_schedule, SCHEDULE_A, value),
             (calls.bookings, SCHEDULE_A, value, 1, 5), (calls.bookings, SCHEDULE_A, 1, value, 5),
-            (calls.bookings, SCHEDULE_A, 1, 1, value), (calls.check, CHAIN_A._replace(gap=value)), (calls.check, CHAIN_A._replace(places=value)),
-            (calls.check, Chain.of([(4, 4, value)])), (calls.greatest, TABLE_A._replace(anchors=value)),
-            (calls.greatest, TABLE_A._replace(hyperperiod=value)), (calls.greatest, TABLE_A._replace(starts=[0, value])),
-            (calls.write_file, SCHEDULE_A._replace(gap=value), bytearray(698)), (calls.write_file, SCHEDULE_A._replace(count=value), bytearray(698)),
-            (calls.write_file, SCHEDULE_A._replace(lengths=(value, None, None)), bytearray(698)),
-            (calls.write_file, SCHEDULE_A._replace(chain_count=value), bytearray(698)), (calls.write_file, Schedule.of([(1, 4, value, 0)], [[1]]), bytearray(698)),
+            (calls.bookings, SCHEDULE_A, 1, 1, value), (calls.check, dataclasses.replace(CHAIN_A, gap=value)), (calls.check, dataclasses.replace(CHAIN_A, places=value)),
+            (calls.check, Chain.of([(4, 4, value)])), (calls.greatest, dataclasses.replace(TABLE_A, anchors=value)),
+            (calls.greatest, dataclasses.replace(TABLE_A, hyperperiod=value)), (calls.greatest, dataclasses.replace(TABLE_A, starts=[0, value])),
+            (calls.write_file, dataclasses.replace(SCHEDULE_A, gap=value), bytearray(698)), (calls.write_file, dataclasses.replace(SCHEDULE_A, count=value), bytearray(698)),
+            (calls.write_file, dataclasses.replace(SCHEDULE_A, lengths=(value, None, None)), bytearray(698)),
+            (calls.write_file, dataclasses.replace(SCHEDULE_A, chain_count=value), bytearray(698)), (calls.write_file, Schedule.of([(1, 4, value, 0)], [[1]]), bytearray(698)),
             (calls.write_file, Schedule.of([(1, 4, 4, 0)], [[value]]), bytearray(698)),
         ]
         yield from [(value, *each) for each in asked]
@@ -1032,6 +1077,82 @@ def beyond_cases():
         yield f"calls.{call.__name__} with {value}", found, "an error"
 
 
+def leaves(code, *lists):
+    """A call that answers this code and leaves these numbers at the beginning of its last lists; of None nothing is written."""
+    def call(*arguments):
+        for out, numbers in zip(arguments[-len(lists):], lists):
+            for i in range(len(out)) if numbers is not None else ():
+                out[i] = numbers[i] if i < len(numbers) else 0
+        return code
+    return call
+
+
+# Calls that break a promise of the header: a number that is not written, one that is not 0 in a refusal, or past a count; a report of no bytes.
+BREACHES = [
+    ("mo_delay", calls.delay, (CHAIN_A, 0), leaves(0, None)), ("mo_delay", calls.delay, (CHAIN_A, 0), leaves(12, [5])), ("mo_check", calls.check, (CHAIN_A,), leaves(7, None)),
+    ("mo_mean", calls.mean, (TABLE_A,), leaves(0, [3], None)), ("mo_exceedance", calls.exceedance, (TABLE_A, 5), leaves(0, [3], [1])), ("mo_exceedance", calls.exceedance, (TABLE_A, 5), leaves(0, [3], [2])),
+    ("mo_warm_up", calls.warm_up, (CHAIN_A,), leaves(0, [1, 1, 1], [4], [12])), ("mo_warm_up", calls.warm_up, (CHAIN_A,), leaves(8, [], [4], [])),
+    ("mo_make_table", calls.make_table, (CHAIN_A, 1, array("Q", [0]), array("Q", [0])), leaves(11, None)),
+    ("mo_make_table", calls.make_table, (CHAIN_A, 1, array("Q", [0]), array("Q", [0])), leaves(9, [0, 0, 12])),
+    ("mo_read_file", calls.read_file, (FILE_A,), leaves(0, [1, 4, 4, 0, 7], [1], [1], [1, 1, 0])), ("mo_read_file", calls.read_file, (FILE_A,), leaves(0, [1, 4, 4, 0], [1, 1], [1], [1, 1, 0])),
+    ("mo_read_file", calls.read_file, (FILE_A,), leaves(0, [1, 4, 4, 0], [1], [1, 1], [1, 1, 0])), ("mo_read_file", calls.read_file, (FILE_A,), leaves(0, [], [], [], [33, 1, 0])),
+    ("mo_read_file", calls.read_file, (FILE_A,), leaves(1, [], [], [], [0, 0, 9])), ("mo_write_file", calls.write_file, (SCHEDULE_A, bytearray(9)), leaves(8, [4])),
+    ("mo_chain_of_schedule", calls.chain_of_schedule, (SCHEDULE_A, 1), leaves(0, [4, 4, 0, 5], [1])), ("mo_chain_of_schedule", calls.chain_of_schedule, (SCHEDULE_A, 1), leaves(16, [], [1])),
+    ("mo_bookings", calls.bookings, (SCHEDULE_A, 1, 2, 0), leaves(16, [0, 0, 0, 1])), ("mo_report", calls.report, (FILE_A, bytearray(9)), leaves(0, None)),
+]
+
+
+class Replaced:
+    """Something of a module in another form, for a while."""
+
+    def __init__(self, module, name, other):
+        self.module, self.name, self.other, self.own = module, name, other, getattr(module, name)
+
+    def __enter__(self):
+        setattr(self.module, self.name, self.other)
+
+    def __exit__(self, *_):
+        setattr(self.module, self.name, self.own)
+
+
+def raised(exception, call, *arguments):
+    """Whether a call raises this exception; what it does else."""
+    try:
+        return f"answers {call(*arguments)}"
+    except exception:
+        return True
+    except Exception as other:
+        return repr(other)
+
+
+def breach_cases():
+    """Calls that break a promise are told as broken, and answers of two calls that differ as a disagreement."""
+    for name, call, arguments, other in BREACHES:
+        fake = type("Fake", (), {name: staticmethod(other)})
+        with Replaced(calls.library, "load", lambda: fake):
+            yield f"{name} that breaks a promise {arguments}", raised(Broken, call, *arguments), True
+    age = calls.age
+    with Replaced(calls, "age", lambda chain, z: age(chain, z) + (chain.places > 1)):
+        yield "a leg whose front parts have another age", raised(analysis.Disagreement, analysis.way_of_leg, CHAIN_A, 30), True
+    with Replaced(calls, "age", lambda chain, z: 5):
+        yield "an age before the first", raised(analysis.Disagreement, analysis.first_leg, CHAIN_A), True
+    yield "a job between two", raised(analysis.Disagreement, analysis.job_written, CHAIN_A, 1, 7), True
+    yield "bookings other than those of each chain", raised(analysis.Disagreement, words.pair, SCHEDULE_A, calls.Bookings(19, 12, 7, 9), 1, 2, 0), True
+
+
+def buffer_cases():
+    """Lists and bytes that a call cannot write to are an error, and bytes of other kinds are lent as bytes."""
+    written = array("B", bytes(698)), (ctypes.c_char * 698)(), bytes(698), memoryview(bytes(698)), memoryview(array("Q", bytes(696)))
+    for out in written:
+        yield f"write_file to {type(out)}", raised(TypeError, calls.write_file, SCHEDULE_A, out), True
+        yield f"report to {type(out)}", raised(TypeError, calls.report, FILE_A, out), True
+    for out in ([0] * 5, (0,) * 5, array("q", [0] * 5), array("L", [0] * 5), memoryview(bytes(40))):
+        yield f"make_table to {type(out)}", raised(TypeError, calls.make_table, CHAIN_A, 1, out, out), True
+    for data in (FILE_A, bytearray(FILE_A), memoryview(FILE_A), memoryview(bytearray(FILE_A)), array("B", FILE_A), memoryview(array("B", FILE_A))):
+        yield f"read_file of {type(data)}", shape(calls.read_file(data)), shape(calls.read_file(FILE_A))
+    yield "a list lent as a longer one", raised(ValueError, calls.write_file, dataclasses.replace(SCHEDULE_A, lengths=(128, None, None)), bytearray(698)), True
+
+
 def library_cases(folder):
     """A shared object that is missing, or is none, is told with the way to make it; what needs none works without."""
     no_object, other = put(folder, "no-object.so", b"this is no shared object"), os.path.join(folder, "missing.so")
@@ -1039,6 +1160,10 @@ def library_cases(folder):
     bare = shutil.copytree(os.path.join(TOP, "host"), os.path.join(folder, "bare", "host"), ignore=shutil.ignore_patterns("__pycache__"))
     alone = subprocess.run([sys.executable, bare, "check", LASER], env=surroundings(), capture_output=True, text=True)
     yield "the package without a shared object", (alone.returncode, alone.stdout, "host/library" in alone.stderr, "Traceback" in alone.stderr), (2, "", True, False)
+    # A name without a folder is one in the current folder.
+    shutil.copy(os.path.join(TOP, "target", "host", "libmeshorchard.so"), os.path.join(folder, "named.so"))
+    answer = ran(["text", LASER], cwd=folder, env=surroundings(MESHORCHARD_LIBRARY="named.so"))
+    yield "a shared object in the current folder", (answer.status, answer.err), (0, "")
     named = [(path, arguments) for path in (other, no_object, folder, "/proc/self/exe") for arguments in (["check", LASER], ["write", LASER_TEXT, os.path.join(folder, "out")])]
     for (path, arguments), answer in zip(named, ran_all([(arguments, b"", {"env": surroundings(MESHORCHARD_LIBRARY=path)}) for path, arguments in named])):
         told_so = path in answer.err and answer.err.count("\n") == 1
@@ -1053,6 +1178,8 @@ def package(r, factor):
     """the package: every call, every refusal, numbers beyond 64 bits, a missing shared object, Python 3.9"""
     yield from declared_cases()
     yield from refusal_cases()
+    yield from breach_cases()
+    yield from buffer_cases()
     yield from beyond_cases()
     with tempfile.TemporaryDirectory() as folder:
         yield from library_cases(folder)

@@ -1,7 +1,7 @@
 """What the proved calls say of a chain: its table, its figures, the way of a press and of a leg, and how two chains are booked.
 
-The numbers are those of the calls. What is done here beside them: the read of a job is its write less the task's duration, its number is how many periods lie
-between phase and read, and both are as whole as the definitions say, or an error.
+The numbers are those of the calls. Two steps are done here beside them: the read of a job is its write less the task's duration, and its number is how many periods lie
+between the phase and the read; where these are no whole periods, that is an error.
 """
 from __future__ import annotations
 
@@ -82,7 +82,6 @@ class Figures:
     table: Table
     warm: int
     hyperperiod: int
-    walked: int
     greatest: int
     low: int
     mean: Fraction
@@ -118,7 +117,7 @@ def made(chain: Chain, count: int = SLOTS) -> Figures:
     del starts[making.anchors:], latencies[making.anchors:]
     table = Table(starts, latencies, making.anchors, making.hyperperiod)
     top, mean = calls.greatest(table), calls.mean(table)
-    return Figures(table, making.tick, making.hyperperiod, making.walked, top, calls.low(table), Fraction(mean.doubled_area, mean.doubled_ticks), starts[latencies.index(top)])
+    return Figures(table, making.tick, making.hyperperiod, top, calls.low(table), Fraction(mean.doubled_area, mean.doubled_ticks), starts[latencies.index(top)])
 
 
 def jobs_between(chain: Chain, place: int, first: int, last: int, most: int) -> Optional[List[Job]]:

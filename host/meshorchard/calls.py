@@ -1,7 +1,7 @@
 """Every call of include/meshorchard.h as a function, under its name without `mo_`. The header says what each answers.
 
-A success is a number or a dataclass, a refusal the exception Refused. What the header promises beside the answer, zeros in a refusal and past the counts, is
-looked at in each call; where it does not hold, the shared object is not that of these declarations, and the exception Broken tells.
+A success is a number or a dataclass, a refusal the exception Refused. What the header promises beside the answer, that every number is written, with zeros in a
+refusal and past the counts, is looked at in each call; where it does not hold, the shared object is not that of these declarations, and the exception Broken tells.
 """
 from __future__ import annotations
 
@@ -9,12 +9,11 @@ from dataclasses import dataclass
 from typing import Tuple
 
 from . import library
-from .lent import ROW, Bytes, Chain, Schedule, Table, WritableBytes, WritableNumbers, answers, lend_bytes, lend_bytes_to_write, lend_to_write, number
+from .lent import ROW, UNWRITTEN, Bytes, Chain, Schedule, Table, WritableBytes, WritableNumbers, answers, lend_bytes, lend_bytes_to_write, lend_to_write, number
 from .refusals import Refused
 
 # Reading a table answers a delay below this, or this and the refusal's number.
 REFUSED = 2**32
-UPPER_TICK = 10**12
 LONGEST_FILE = 698
 LONGEST_REPORT = 92000
 
@@ -71,7 +70,9 @@ class Bookings:
 
 
 def _sound(code: int, left, of: str) -> None:
-    """Nothing after a success. After a refusal each number that was lent must be 0."""
+    """Nothing after a success, in which each number that was lent must be written. After a refusal each must be 0."""
+    if UNWRITTEN in left:
+        raise Broken(f"beside the code {code} the call left numbers as they were")
     if code == 0:
         return
     if any(left):
@@ -148,9 +149,9 @@ def make_table(chain: Chain, p: int, starts: WritableNumbers, latencies: Writabl
     """The anchors are left in the lists. Where the lists are too short the refusal has what was made: its `made`."""
     figures = answers(4)
     code = library.load().mo_make_table(*chain.lent(), number(p), *lend_to_write(starts), *lend_to_write(latencies), figures)
-    if code == 11:
+    if code == 11 and UNWRITTEN not in figures:
         raise Refused(11, 0, "chain", Making(*figures))
-    _sound(code, figures, "chain")
+    _sound(code, list(figures), "chain")
     return Making(*figures)
 
 
@@ -176,7 +177,7 @@ def read_file(data: Bytes) -> Schedule:
 def write_file(schedule: Schedule, out: WritableBytes) -> int:
     """The length; the file is left in the first bytes of `out`."""
     length = answers(1)
-    _sound(library.load().mo_write_file(*schedule.lent(), *lend_bytes_to_write(out), length), length, "schedule")
+    _sound(library.load().mo_write_file(*schedule.lent(), *lend_bytes_to_write(out), length), list(length), "schedule")
     return length[0]
 
 
@@ -193,10 +194,13 @@ def chain_of_schedule(schedule: Schedule, number_of_chain: int) -> Chain:
 def bookings(schedule: Schedule, first: int, second: int, t: int) -> Bookings:
     figures = answers(4)
     code = library.load().mo_bookings(*schedule.lent(), number(first), number(second), number(t), figures)
-    _sound(code, figures, "schedule")
+    _sound(code, list(figures), "schedule")
     return Bookings(*figures)
 
 
 def report(data: Bytes, out: WritableBytes) -> int:
     """The length of the text; as much of it as fits is left in `out`."""
-    return library.load().mo_report(*lend_bytes(data), *lend_bytes_to_write(out))
+    length = library.load().mo_report(*lend_bytes(data), *lend_bytes_to_write(out))
+    if not 0 < length <= LONGEST_REPORT:
+        raise Broken(f"a report has {length} bytes")
+    return length

@@ -9,7 +9,7 @@ from bisect import bisect_left
 from typing import List, NamedTuple, Tuple
 
 from . import calls, measures
-from .analysis import Figures
+from .analysis import SLOTS, Figures
 from .drawing import Axis, apart, at, document, dot, line, text, wide
 from .lent import Chain, Table
 from .measures import counted
@@ -17,7 +17,7 @@ from .measures import counted
 # One anchor in so many pixels can still be told from the next; with more the picture is drawn in columns.
 PIXELS = 3
 # As many anchors as an instrument's report has room for are marked, with more the marks would be one band.
-MOST_MARKS = 1024
+MOST_MARKS = SLOTS
 
 
 # How far the marks of the delays lie apart, in pixels.

@@ -8,6 +8,7 @@ from __future__ import annotations
 
 import ctypes
 from array import array
+from dataclasses import dataclass
 from typing import List, NamedTuple, Optional, Sequence, Tuple, Union
 
 from .library import NUMBER
@@ -15,8 +16,8 @@ from .library import NUMBER
 LARGEST = 2**64 - 1
 # The entries of the list of chains that each chain has.
 ROW = 12
-# What a number that is lent for an answer holds before the call, so that one which the call did not write is seen.
-UNWRITTEN = 0xDEADBEEF
+# What a number that is lent for an answer holds before the call. No answer is as large, so one that the call did not write is seen.
+UNWRITTEN = 0xDEADBEEFDEADBEEF
 
 Numbers = Union[Sequence[int], array, memoryview]
 Bytes = Union[bytes, bytearray, memoryview]
@@ -40,7 +41,9 @@ def lend(numbers: Numbers, length: Optional[int] = None) -> Tuple[ctypes.Array, 
     """A lent list of numbers: its memory and its length, or a shorter one. A list of another kind is copied, number by number."""
     as_it_is = _kind(numbers) == "Q" and not (isinstance(numbers, memoryview) and numbers.readonly)
     held = numbers if as_it_is else array("Q", list(numbers))
-    return (NUMBER * len(held)).from_buffer(held), len(held) if length is None else number(length)
+    if length is not None and not 0 <= length <= len(held):
+        raise ValueError(f"a list of {len(held)} entries is not lent as one of {length}")
+    return (NUMBER * len(held)).from_buffer(held), len(held) if length is None else length
 
 
 def lend_to_write(numbers: WritableNumbers) -> Tuple[ctypes.Array, int]:
@@ -52,14 +55,18 @@ def lend_to_write(numbers: WritableNumbers) -> Tuple[ctypes.Array, int]:
 
 def lend_bytes(data: Bytes) -> Tuple[ctypes.Array, int]:
     """Lent bytes: their memory and their number."""
-    as_it_is = isinstance(data, (bytearray, memoryview)) and not memoryview(data).readonly
-    held = data if as_it_is else bytearray(data)
+    held = data if _writable(data) else bytearray(bytes(data))
     return (ctypes.c_char * len(held)).from_buffer(held), len(held)
+
+
+def _writable(data) -> bool:
+    """Whether a call can write to these bytes where they are."""
+    return isinstance(data, bytearray) or isinstance(data, memoryview) and data.itemsize == 1 and not data.readonly
 
 
 def lend_bytes_to_write(data: WritableBytes) -> Tuple[ctypes.Array, int]:
     """Bytes that a call writes to."""
-    if memoryview(data).readonly:
+    if not _writable(data):
         raise TypeError("bytes to write to are a bytearray, or a memoryview of one")
     return lend_bytes(data)
 
@@ -78,7 +85,8 @@ class Task(NamedTuple):
     phase: int
 
 
-class Chain(NamedTuple):
+@dataclass(frozen=True)
+class Chain:
     """A chain: T, D, F of the task at each place, the number of places, and the gap."""
 
     tasks: Numbers
@@ -112,7 +120,8 @@ class Chain(NamedTuple):
         return (*lend(self.tasks), number(self.places), number(self.gap))
 
 
-class Table(NamedTuple):
+@dataclass(frozen=True)
+class Table:
     """A table of anchors: their starts and latencies, their number and the hyperperiod."""
 
     starts: Numbers
@@ -125,7 +134,8 @@ class Table(NamedTuple):
         return (*lend(self.starts), *lend(self.latencies), number(self.anchors), number(self.hyperperiod))
 
 
-class Schedule(NamedTuple):
+@dataclass(frozen=True)
+class Schedule:
     """A schedule: three lists, two counts and the gap. Entries past the counts are no part of it."""
 
     tasks: Numbers  # number, T, D, F, number, T, D, F, ..

@@ -46,7 +46,7 @@ class Missing(Exception):
 
 def path() -> str:
     """Where the shared object is looked for."""
-    return os.environ.get(VARIABLE) or MADE
+    return os.path.abspath(os.environ.get(VARIABLE) or MADE)
 
 
 @functools.lru_cache(maxsize=None)

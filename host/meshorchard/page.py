@@ -6,7 +6,7 @@ from html import escape
 from typing import List, Optional, Sequence
 
 from . import calls, curve, drawing, timeline, words
-from .analysis import Figures, made
+from .analysis import Figures, made, slots_table
 from .lent import Chain, Schedule
 from .measures import counted, in_unit, short, sign, unit_for
 from .refusals import Refused
@@ -58,8 +58,8 @@ WORDS = """<section class="words"><h2>How to read this page</h2>
 <p><b>Delay</b>: the time from a press until it is booked, the write of the last task. <b>Hyperperiod</b>: the time after which the delays repeat. <b>Warm-up tick</b>: presses before it
 are not counted, since the chain still fills. <b>Anchor</b>, a dot on the curve: from there the delay falls by one tick a tick until the next one; the anchors are the table that the instrument
 makes. A hollow dot is not reached, and neither is the <b>low</b>. A job of the <b>first place</b> is one sample; its own time begins with its read, a press has waited before that.</p>
-<p>In the picture of a way a blue bar is a job that carries the press, from its read to its write, a line the wait for the next task's read, a grey bar another job of the task; a dotted line
-stands for more than 80 of them.</p></section>
+<p>In the picture of a way a blue bar is a job that carries the press, from its read to its write, a line the wait for the next task's read, a grey bar another job of the task; a dotted
+line stands for the jobs of a row of more than 80.</p></section>
 """
 
 
@@ -107,7 +107,10 @@ def of_schedule(name: str, schedule: Schedule, bound: Optional[int], jobs: int) 
     for number, tasks in enumerate(schedule.chain_list(), start=1):
         page.add(f"<section>\n<h2>Chain {number}: {'task' if len(tasks) == 1 else 'tasks'} {' → '.join(map(str, tasks))}</h2>")
         try:
-            _chain(page, calls.chain_of_schedule(schedule, number), number, tasks, bound, jobs)
+            chain = calls.chain_of_schedule(schedule, number)
+            _chain(page, chain, number, tasks, bound, jobs)
+            # The report's room is looked at last: the page itself has room for every table.
+            slots_table(chain)
         except Refused as refused:
             page.refuse(words.of_chain(schedule, number, refused))
         page.add("</section>")

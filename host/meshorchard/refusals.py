@@ -82,7 +82,8 @@ def explanation(number: int, place: Optional[int] = None) -> List[str]:
     meaning = MEANINGS[number]
     lines = [f"{number}: {meaning.short}."]
     if place is not None:
-        for of, name, most in (("file", "in a report or of a schedule file", None), ("schedule", "of a call on a schedule", 32), ("chain", "of a call on a chain", 12)):
+        tasks_or_places = 32 if number == 5 else 12
+        for of, name, most in (("file", "in a report or of a schedule file", None), ("schedule", "of a call on a schedule", tasks_or_places), ("chain", "of a call on a chain", 12)):
             said = position(number, place, of)
             if said and (most is None or place <= most and (place > 0 or number == 5)):
                 lines.append(f"Place {place:,} {name}: {said}.")

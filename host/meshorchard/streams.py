@@ -81,4 +81,4 @@ def title_of(path: str) -> str:
     if path == STREAM:
         return shown(path)
     name = re.sub("[\x00-\x1f\x7f\ufffe\uffff]", "\ufffd", os.fsencode(os.path.splitext(os.path.basename(path))[0]).decode("utf-8", "replace"))
-    return name if len(name) <= 40 else name[:39] + "…"
+    return name if len(name) <= 32 else name[:31] + "…"

@@ -51,8 +51,11 @@ class Line:
         self.next = 0
 
     def wrong(self, at: Optional[int], right: str) -> WrongLine:
-        """The word at this index is wrong, or the line itself."""
-        return WrongLine(self.number, None if at is None else self.words[at], right)
+        """The word at this index is wrong, with the unit that follows it, or the line itself."""
+        if at is None:
+            return WrongLine(self.number, None, right)
+        unit = [word for word in self.words[at + 1:at + 2] if word in measures.UNITS and measures.TIME.fullmatch(self.words[at])]
+        return WrongLine(self.number, " ".join([self.words[at], *unit]), right)
 
     def take(self, wanted: str) -> str:
         if self.next == len(self.words):

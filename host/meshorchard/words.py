@@ -4,8 +4,8 @@ from __future__ import annotations
 from typing import List, Sequence, Tuple
 
 from . import calls, diagnosis
-from .analysis import Disagreement, Job, first_leg, slots_table, way_of_leg, way_of_press
-from .lent import Chain, Schedule
+from .analysis import SLOTS, Disagreement, Job, first_leg, slots_table, way_of_leg, way_of_press
+from .lent import Schedule
 from .measures import counted, said, short
 from .refusals import Refused
 
@@ -31,7 +31,7 @@ def of_chain(schedule: Schedule, number: int, refused: Refused) -> str:
         chain = calls.chain_of_schedule(schedule, number)
         return f"chain {number} is refused with 12: it has not warmed up. A press has a delay from tick {calls.warm_up(chain).tick:,} on, a leg an age from tick {first_leg(chain):,} on."
     if refused.number == 11:
-        return f"chain {number} is refused with 11 in a report: its table has {refused.made.anchors:,} anchors, and a report has room for 1,024."
+        return f"chain {number} is refused with 11 in a report: its table has {refused.made.anchors:,} anchors, and a report has room for {SLOTS:,}."
     return f"chain {number} is refused with {refused.number}: {refused.words}."
 
 
