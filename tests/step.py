@@ -125,7 +125,7 @@ def loops(onward):
 def main():
     given = [(sys.argv[1], "mo_make_table")] if len(sys.argv) > 1 else None
     if given is None:
-        subprocess.run([os.path.join(TOP, "tests", "archives")], check=True, stdout=subprocess.DEVNULL, stderr=subprocess.DEVNULL)
+        subprocess.run([os.path.join(TOP, "host", "archives")], check=True, stdout=subprocess.DEVNULL, stderr=subprocess.DEVNULL)
         given = [(os.path.join(TOP, "target", "staticlib", archive), call) for archive, call in CALLS]
     passed = failed = 0
 
