@@ -18,8 +18,6 @@ from .measures import counted
 PIXELS = 3
 # As many anchors as an instrument's report has room for are marked, with more the marks would be one band.
 MOST_MARKS = SLOTS
-
-
 # How far the marks of the delays lie apart, in pixels.
 ROOM_UP = 38
 
@@ -79,9 +77,10 @@ def column(chain: Chain, figures: Figures, start: int, stop: int) -> Column:
     """The ticks from start to the one before stop: the curve there is that of a table that begins with the delay at the first tick."""
     starts, latencies = figures.table.starts, figures.table.latencies
     first, last = bisect_left(starts, start), bisect_left(starts, stop)
-    within = Table([start, *starts[first:last]], [calls.delay(chain, start), *latencies[first:last]], last - first + 1, stop - start)
-    if first < last and starts[first] == start:
-        within = Table(starts[first:last], latencies[first:last], last - first, stop - start)
+    anchors, delays = list(starts[first:last]), list(latencies[first:last])
+    if anchors[:1] != [start]:
+        anchors, delays = [start, *anchors], [calls.delay(chain, start), *delays]
+    within = Table(anchors, delays, len(anchors), stop - start)
     return Column(start, stop, last - first, calls.greatest(within), calls.low(within))
 
 
