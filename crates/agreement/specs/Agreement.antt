@@ -90,9 +90,10 @@ module _ (c : Chain) (twelve : length (c .tasks) ≡ 12) where
     ages : (z : ℕ) → firstAged (tasksOf c) ≤ z → z ≤ upperTick → ageOf c z ≡ Ticks (ageAt (tasksOf c) z)
     ages z low high = rw (held .whole) (span-there (hyperOf (tasksOf c)) (firstAged (tasksOf c)) z (ageAt (tasksOf c) z) low high)
 
-    answers : greatestOf s′ v′ (f .anchors) (f .hyperperiod) ≡ Latency (greatest (canonical (tasksOf c) (hyperOf (tasksOf c))))
+    -- what the figure answers of it
+    pub greatest-answered : greatestOf s′ v′ (f .anchors) (f .hyperperiod) ≡ Latency (greatest (canonical (tasksOf c) (hyperOf (tasksOf c))))
     unfolding greatestOf
-    answers = rw (made-well-formed c twelve p s v s′ v′ f makes) (ap (λ (l : List Anchor). Latency (greatest l)) (made-anchors c twelve p s v s′ v′ f makes))
+    greatest-answered = rw (made-well-formed c twelve p s v s′ v′ f makes) (ap (λ (l : List Anchor). Latency (greatest l)) (made-anchors c twelve p s v s′ v′ f makes))
 
     -- A completed table is well-formed.
     pub well-formed : wellFormed s′ v′ (f .anchors) (f .hyperperiod) ≡ true
@@ -105,7 +106,7 @@ module _ (c : Chain) (twelve : length (c .tasks) ≡ 12) where
     greatest-is-delay-and-age = record {
       latency = greatest (canonical (tasksOf c) (hyperOf (tasksOf c)));
       greatest-latency = ap greatest (made-anchors c twelve p s v s′ v′ f makes);
-      answered = answers;
+      answered = greatest-answered;
       walked = walks;
       aged = ages;
       greatest-delay = subst (λ (x : ℕ). GreatestWithin (delayAt (tasksOf c)) x upperTick (greatest (canonical (tasksOf c) (hyperOf (tasksOf c))))) (sym (held .tick)) (greatest-delay-is (tasksOf c) (held .sound) (held .small));

@@ -49,7 +49,7 @@ exact (Of i) k h g = go (i .0) (eq (i .0) h g)
     go x e = ap (λ (y : ℕ). Of (record { 0 = y })) e
 exact Nothing k h g = absurd h
 
-module _ (l : List Place) (ok : Sound l) (small : hyperOf l ≤ 60000000) where
+module _ (l : List Place) (ok : Sound l) where
   abbrev pub top : ℕ
   top = greatest (canonical l (hyperOf l))
 
@@ -94,8 +94,13 @@ module _ (l : List Place) (ok : Sound l) (small : hyperOf l ≤ 60000000) where
       let s : tick + (reached .at - warmTick l) / hyperOf l * hyperOf l ≡ reached .at = omega (arith, div-add-mod' (reached .at - warmTick l) (hyperOf l)) in
       sym (delay-periods l ok ((reached .at - warmTick l) / hyperOf l) tick tick-low) ∙ ap (delayAt l) s ∙ sym (table-walk l ok (reached .at) low) ∙ reached .meets
 
-  pub greatest-delay-is : GreatestWithin (delayAt l) (warmTick l) 1000000000000 top
-  greatest-delay-is = record {
+  -- it is the greatest of all time,
+  pub greatest-of-all : GreatestFrom (delayAt l) (warmTick l) top
+  greatest-of-all = record { bound = delay-bound; at = tick; late = tick-low; meets = tick-meets }
+
+  -- and of the ticks up to the upper one
+  pub greatest-delay-is : hyperOf l ≤ 60000000 → GreatestWithin (delayAt l) (warmTick l) 1000000000000 top
+  greatest-delay-is small = record {
     bound = λ t low high. delay-bound t low;
     at = tick;
     from = tick-low;
@@ -212,8 +217,8 @@ module _ (l : List Place) (ok : Sound l) (small : hyperOf l ≤ 60000000) where
   pub top-fits : top ≤ 60011000
   top-fits = omega (arith, latency-fits l ok (j tick tick-low tick-meets) (j-warm tick tick-low tick-meets), u-delay tick tick-low tick-meets, u-reads tick tick-low tick-meets)
 
-  pub greatest-age-is : GreatestWithin (λ z. suc (ageAt l z)) (firstAged l) 1000000000000 top
-  greatest-age-is = record {
+  pub greatest-age-is : hyperOf l ≤ 60000000 → GreatestWithin (λ z. suc (ageAt l z)) (firstAged l) 1000000000000 top
+  greatest-age-is small = record {
     bound = λ z from upto. age-bound z from;
     at = tick + top - 1;
     from = peak-low tick tick-low tick-meets;

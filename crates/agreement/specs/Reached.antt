@@ -75,10 +75,10 @@ module _ (c : Chain) (twelve : length (c .tasks) ≡ 12) (p : ℕ) (s v s′ v�
         let ok = k .sound in
         let e : getD v′ i 0 ≡ greatest (canonical l (hyperOf l)) = g ∙ ap greatest same in
         let m : delayAt l (getD s′ i 0) ≡ greatest (canonical l (hyperOf l)) = delay-start ∙ e in
-        let a = peak-age l ok (k .small) (getD s′ i 0) low m in
-        let b = peak-low l ok (k .small) (getD s′ i 0) low m in
-        let t = top-fits l ok (k .small) in
-        let x = warm-small l ok (k .small) in
+        let a = peak-age l ok (getD s′ i 0) low m in
+        let b = peak-low l ok (getD s′ i 0) low m in
+        let t = top-fits l ok in
+        let x = warm-small l ok in
         let far : getD s′ i 0 + getD v′ i 0 ≤ upperTick = omega (arith, formed .below i h, first, k .hyper, k .small) in
         let q : getD s′ i 0 + greatest (canonical l (hyperOf l)) - 1 ≡ getD s′ i 0 + getD v′ i 0 - 1 = omega arith in
         let r = rw q at a in

@@ -34,7 +34,10 @@ use Rattle.maker.proofs.Lists.{sets-overlay}
 use Rattle.windows.specs.Windows.{afterLimits, windowsAfter}
 use Rattle.capi_timing.specs.Calls.{verdictCode, verdictHyper, spanCode, spanTicks, jobNumber, GivesCheck, GivesWarmUp, GivesDelay, GivesAge}
 use Rattle.capi_maker.specs.Calls.{madeCode, madeNumbers, GivesTable}
+use Rattle.sections.specs.declared.Sections.{Sections}
+use Rattle.sections.specs.Sections.{afterCuts, sectionsAfter}
 use Rattle.capi_windows.specs.Calls.{windowNumbers, GivesWindows}
+use Rattle.capi_sections.specs.Calls.{GivesSections}
 use Rattle.capi_file.specs.Calls.{GivesSchedule, GivesChain}
 use Rattle.capi_file.specs.RoundTrips.{given-schedule, same-given}
 use Rattle.capi_chain.specs.FlatChain.{placesOf, chainFrom}
@@ -53,9 +56,11 @@ pub record RefusedByAll (c : Chain) (r : Refusal) : Type 0 where
   pub make-table : (p : ℕ) (s v : List ℕ) (code : ℕ) (s′ v′ figures : List ℕ) → GivesTable c p s v code s′ v′ figures
       → (code ≡ codeOf r) × (figures ≡ 0 ∷ 0 ∷ 0 ∷ 0 ∷ []) × (s ≡ s′) × (v ≡ v′)
   pub windows : (B k code misses first : ℕ) → GivesWindows c B k code misses first → (code ∷ misses ∷ first ∷ []) ≡ codeOf r ∷ 0 ∷ 0 ∷ []
+  pub sections : (cuts : List ℕ) (code : ℕ) (latencies : List ℕ) (count sum : ℕ) → GivesSections c cuts code latencies count sum
+      → (code ≡ codeOf r) × (latencies ≡ replicate 12 0) × (count ≡ 0) × (sum ≡ 0)
 
 pub refused-by-all : (c : Chain) (r : Refusal) → verdictOf c ≡ Refused r → RefusedByAll c r
-unfolding warmUpAfter spanAfter judged madeAfter writtenAfter windowsAfter
+unfolding warmUpAfter spanAfter judged madeAfter writtenAfter windowsAfter sectionsAfter
 refused-by-all c r e = record {
   check = λ code h g. (g .0 ∙ ap verdictCode e, g .1 ∙ ap verdictHyper e);
   warm-up = λ code jobs tick h g.
@@ -71,6 +76,9 @@ refused-by-all c r e = record {
         sym (g .leaves-latencies ∙ ap (λ (x : Verdict). overlay (latenciesOf (writtenAfter c p x)) v) j ∙ sym (sets-overlay [] v)),
       );
   windows = λ B k code misses first g. g ∙ ap (λ (x : Verdict). windowNumbers (windowsAfter (tasksOf c) B k (afterLimits x k))) e;
+  sections = λ cuts code latencies count sum g.
+      let w = ap (λ (x : Verdict). sectionsAfter (c .gap) (tasksOf c) cuts (afterCuts (length (tasksOf c)) cuts x)) e in
+      (g .answers ∙ ap (λ (x : Sections). codeOf (x .refusal)) w, g .gives-latencies ∙ ap (λ (x : Sections). x .latencies) w, g .gives-count ∙ ap (λ (x : Sections). x .count) w, g .gives-sum ∙ ap (λ (x : Sections). x .sum) w);
 }
   where
     span-refused : (from t span code ticks : ℕ) → (code ≡ spanCode (spanAfter (verdictOf c) from t span)) × (ticks ≡ spanTicks (spanAfter (verdictOf c) from t span)) → (code ≡ codeOf r) × (ticks ≡ 0)

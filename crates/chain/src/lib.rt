@@ -11,6 +11,7 @@ ghost use Prim.Native.Nat.{_+_, _*_, _-_, _≤_, _<_};
 ghost use lib.ListN.{length, getD};
 ghost use Rattle.task.specs.Jobs.{readOf, writeOf};
 ghost use Rattle.chain.specs.Chains.{zeroTask, at, forwardBy, backwardBy, jobOf};
+ghost use Rattle.chain.specs.Hyperperiod.{hyperOf, UpToLimit};
 ghost use Rattle.chain.specs.Checks.{firstFault, hyperVerdict, verdictOf, verdictIn, Sound};
 ghost use Rattle.chain.specs.Flat.{flatChain, flatLength, givenIn, tasksIn};
 
@@ -103,10 +104,11 @@ fn first_fault(tasks: &[u64]) -> usize
     0
 }
 
-// Accepted with the hyperperiod, or 7. The multiple only grows, so the first value above the limit decides. The gap is that of the places, of which H is; it has no part in H.
-fn hyper_verdict(tasks: &[u64], gap: u64) -> Verdict
+// The hyperperiod of a list that passed 8 and 5, for the crates above; where it is above the limit, some number above the limit: the multiple only grows, so the first value
+// above it decides. The gap is that of the places, of which H is; it has no part in H.
+pub fn hyperperiod_on(tasks: &[u64], gap: u64) -> u64
     requires { ⌜ Sound (tasksIn gap (now tasks)) ⌝ }
-    ensures { λ r. ⌜ r ≡ hyperVerdict (tasksIn gap (now (tasks .entry))) ⌝ }
+    ensures { λ r. ⌜ UpToLimit (hyperOf (tasksIn gap (now (tasks .entry)))) r ⌝ }
 {
     let n = tasks.len() / 3;
     let mut h: u64 = 1;
@@ -115,14 +117,26 @@ fn hyper_verdict(tasks: &[u64], gap: u64) -> Verdict
         let a = task_at(tasks, gap, i);
         h = euclid::lcm(h, a.period);
         if 60000000 < h {
-            return Verdict::Refused(Refusal {
-                number: 7,
-                place: 0,
-            });
+            return h;
         }
         i += 1;
     }
-    Verdict::Accepted(h)
+    h
+}
+
+// Accepted with the hyperperiod, or 7.
+fn hyper_verdict(tasks: &[u64], gap: u64) -> Verdict
+    requires { ⌜ Sound (tasksIn gap (now tasks)) ⌝ }
+    ensures { λ r. ⌜ r ≡ hyperVerdict (tasksIn gap (now (tasks .entry))) ⌝ }
+{
+    let h = hyperperiod_on(tasks, gap);
+    if h <= 60000000 {
+        return Verdict::Accepted(h);
+    }
+    Verdict::Refused(Refusal {
+        number: 7,
+        place: 0,
+    })
 }
 
 // The checks of a flat list of tasks, one for each place, and of the gap.

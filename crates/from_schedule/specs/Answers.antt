@@ -19,6 +19,8 @@ use Rattle.maker.specs.Making.{Makes}
 use Rattle.windows.specs.declared.Windows.{Windows}
 use Rattle.windows.specs.declared.Windows.the-variants as windows
 use Rattle.windows.specs.Windows.{windowsOf}
+use Rattle.sections.specs.declared.Sections.{Sections}
+use Rattle.sections.specs.Sections.{sectionsAfter, sectionsAnswer}
 use Rattle.bookings.specs.declared.Bookings.{Bookings}
 use Rattle.bookings.specs.declared.Bookings.the-variants as bookings
 use Rattle.bookings.specs.Bookings.{bookingsOf}
@@ -38,6 +40,10 @@ ageFrom s n z = afterChoice s n span.Refused (λ (c : Chain). ageOf c z)
 -- windows of k jobs.
 abbrev pub windowsFrom : Schedule → ℕ → ℕ → ℕ → Windows
 windowsFrom s n B k = afterChoice s n windows.Refused (λ (c : Chain). windowsOf c B k)
+
+-- Sections of a chain that is cut (order 6): a refusal has zeros everywhere else.
+abbrev pub sectionsFrom : Schedule → ℕ → List ℕ → Sections
+sectionsFrom s n cuts = afterChoice s n (λ (r : Refusal). sectionsAfter 0 [] cuts (verdict.Refused r)) (λ (c : Chain). sectionsAnswer c cuts)
 
 -- Two chains: 16 for either number, then as of the two chains.
 abbrev pub bookingsFrom : Schedule → ℕ → ℕ → ℕ → Bookings

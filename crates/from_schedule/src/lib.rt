@@ -3,13 +3,14 @@
 use bookings::Bookings;
 use maker::Made;
 use schedule::Schedule;
+use sections::Sections;
 use task::Job;
 use task::Tick;
 use timing::Span;
 use timing::WarmUp;
 use windows::Windows;
 ghost use mathlib.Core.Path.{_≡_};
-ghost use Rattle.from_schedule.specs.Answers.{warmUpFrom, delayFrom, ageFrom, MakesFrom, windowsFrom, bookingsFrom};
+ghost use Rattle.from_schedule.specs.Answers.{warmUpFrom, delayFrom, ageFrom, MakesFrom, windowsFrom, bookingsFrom, sectionsFrom};
 
 // Warm-up of chain n.
 pub fn warm_up_of(s: Schedule, n: usize) -> WarmUp
@@ -101,4 +102,21 @@ pub fn pair_of(s: Schedule, first: usize, second: usize, t: Tick) -> Bookings
         return Bookings::Refused(q);
     }
     bookings::pair(c.chain, d.chain, t)
+}
+
+// Sections of chain n, cut at these cuts.
+pub fn section_latencies_of(s: Schedule, n: usize, cuts: &[u64]) -> Sections
+    ensures { λ r. ⌜ r ≡ sectionsFrom s n (now (cuts .entry)) ⌝ }
+{
+    let c = schedule_checks::chain_number(s, n);
+    let r = c.refusal;
+    if r.number != 0 {
+        return Sections {
+            refusal: r,
+            latencies: [0u64; 12],
+            count: 0,
+            sum: 0,
+        };
+    }
+    sections::section_latencies(c.chain, cuts)
 }

@@ -1,7 +1,6 @@
 -- What holds at each return of `judge` and `make_table`, and what an accepted making has.
 use Prim.Native.Nat.{ℕ, _+_, _-_, _/_, _≤_, _<_}
 use native.Mathlib.Omega.{arith}
-use native.Mathlib.Nat.{div-mul-le-self, div-le-self}
 use mathlib.Core.Path.{_≡_, refl, sym, ap, _∙_}
 use mathlib.Core.Bool.{Bool, true, false, cond, _&&_}
 use mathlib.Core.List.{List, []}
@@ -13,21 +12,20 @@ use Rattle.refusal.specs.Refusals.{refusal}
 use Rattle.task.specs.declared.Task.{Task}
 use Rattle.task.specs.declared.Place.{Place}
 use Rattle.task.specs.declared.Tick.{Tick}
-use Rattle.task.specs.Jobs.{placeOf, writeOf}
+use Rattle.task.specs.Jobs.{placeOf}
 use Rattle.chain.specs.declared.Chain.{Chain}
 use Rattle.chain.specs.declared.Verdict.{Verdict}
 use Rattle.chain.specs.declared.Verdict.the-variants as verdict
 use Rattle.chain.specs.Chains.{placed, tasksOf, at}
 use Rattle.chain.specs.Checks.{verdictOf, verdictIn, Sound}
 use Rattle.chain.specs.Flat.{givenIn, in-count}
-use Rattle.chain.specs.Hyperperiod.{hyperOf}
-use Rattle.chain.specs.Multiples.{some-jobs}
 use Rattle.chain.specs.StandsFor.{StandsFor}
 use Rattle.chain.proofs.CheckLaws.{FactsIn}
 use Rattle.timing.specs.WarmUp.{warmAt, warmTick}
 use Rattle.timing.specs.WarmRanges.{warm-range}
 use Rattle.partition.specs.Partitions.{startOf, anchorsOf}
 use Rattle.stepping.specs.Moves.{starts-again}
+use Rattle.outset.specs.Range.{whole-range}
 use Rattle.maker.specs.declared.Count.{Count}
 use Rattle.maker.specs.declared.Figures.{Figures}
 use Rattle.maker.specs.declared.Made.{Made}
@@ -93,12 +91,6 @@ well v n p a b h r = go v (leb 1 p) (leb p n) (eqb a b) refl refl refl refl (sym
     go (verdict.Accepted k) false y z e l t m q = absurd (let u : _≡_ {A = ℕ} 0 1 = cc in omega arith)
     go (verdict.Refused f) x y z e l t m q = absurd (let u : _≡_ {A = ℕ} 0 1 = cc in omega arith)
 
--- the whole range of partitions stays small
-pub range-fits : (l : List Place) → Sound l → (p h : ℕ) → p < length l → h ≤ 60000000 → writeOf (at l p) (warmAt l p + h / at l p .period + 1) ≤ 1000000000000
-range-fits l ok p h g s =
-    let w = ok .each p g in
-    omega (arith, warm-range l ok p g, div-mul-le-self h (at l p .period), w .period-max, w .duration-max)
-
 pub warm-tick-small : (l : List Place) → Sound l → warmTick l ≤ 60011000
 unfolding warmTick
 warm-tick-small l ok = warm-range l ok 0 (ok .some)
@@ -106,14 +98,8 @@ warm-tick-small l ok = warm-range l ok 0 (ok .some)
 -- and `fill` has what it needs: the start after the range is a hyperperiod after the warm-up tick
 pub range-fills : (l : List Place) (h places p m n after : ℕ) → FactsIn l h → places ≡ length l → p < length l → m ≡ warmAt l p → n ≡ h / at l p .period → after ≡ warmTick l + h → Fills l places p m n after
 range-fills l h places p m n after f pl g w u a = rw (w, u, a) record {
-  sound = f .sound;
-  places-are = pl;
-  inside = omega (arith, pl);
-  warm = omega arith;
-  some = rw (f .hyper) (some-jobs l (f .sound) p g);
-  round = rw (f .hyper) (omega (arith, div-le-self (hyperOf l) (at l p .period)));
-  few = omega (arith, div-le-self h (at l p .period), f .small);
-  top = range-fits l (f .sound) p h g (f .small);
+  range = whole-range l h places p (warmAt l p) (h / at l p .period) f pl g refl refl;
+  round = rw (f .hyper) (omega arith);
   later = sym (ap (λ (x : ℕ). startOf l p (warmAt l p + x / at l p .period)) (f .hyper) ∙ starts-again l (f .sound) p g ∙ ap (λ (x : ℕ). warmTick l + x) (sym (f .hyper)));
 }
 

@@ -1,21 +1,19 @@
 -- One step of the walk over the partitions.
-use Prim.Native.Nat.{ℕ, _+_, _-_, _*_, _≤_, _<_}
+use Prim.Native.Nat.{ℕ, _+_, _-_, _≤_, _<_}
 use native.Mathlib.Omega.{arith}
 use mathlib.Core.Path.{_≡_, refl, ap, _∙_}
 use mathlib.Core.List.{List, []}
 use lib.ListN.{length}
 use Rattle.task.specs.declared.Place.{Place}
-use Rattle.task.specs.LinkLaws.{read-mono}
-use Rattle.chain.specs.Chains.{at}
 use Rattle.timing.specs.WarmUp.{warmAt}
 use Rattle.partition.specs.declared.Partition.{Partition}
 use Rattle.partition.specs.Partitions.{startOf, IsPartition}
 use Rattle.partition.proofs.Bounds.{start-end, end-pos, own}
 use Rattle.stepping.specs.OnePlace.{jobAt}
 use Rattle.stepping.specs.Standing.{Standing, Steps, Stepped, Reciprocals}
-use Rattle.stepping.specs.Onward.{back-self}
 use Rattle.stepping.specs.Moves.{states-gain}
-use Rattle.outset.specs.Outset.{Cut, First}
+use Rattle.outset.specs.Outset.{First}
+use Rattle.outset.specs.Range.{stands-at, range-in, range-steps}
 use Rattle.maker.specs.declared.Count.{Count}
 use Rattle.maker.specs.Turn.{lastEnd, Added, Filled, Fills, Begins, Walked}
 use Rattle.maker.proofs.Turn.{Going, going-start, going-turn, going-end, added-few}
@@ -35,7 +33,7 @@ module _ (t : List Place) (places p n : ℕ) (first : Partition) (after : ℕ) (
   walking-start = record {
     job = refl;
     low = omega arith;
-    high = b .fills .some;
+    high = b .fills .range .some;
     few = omega arith;
     is = b .is;
     stands = b .stands;
@@ -43,44 +41,35 @@ module _ (t : List Place) (places p n : ℕ) (first : Partition) (after : ℕ) (
   }
 
   cut-in : p < length t
-  cut-in = omega (arith, b .fills .inside, b .fills .places-are)
+  cut-in = range-in t places p (first .job .0) n (b .fills .range)
 
   module _ (state s l : List ℕ) (walked g last : ℕ) (x : Partition) (w : Walking t p n (first .job .0) s₀ l₀ state s l walked g last x) where
     past : warmAt t p ≤ x .job .0
-    past = omega (arith, b .fills .warm, w .job, w .low)
+    past = omega (arith, b .fills .range .warm, w .job, w .low)
 
-    stands-at : jobAt state p ≡ x .job .0
-    stands-at = w .stands .all .back-jobs p (omega arith) (omega arith) ∙ back-self t p (x .job .0)
+    stands : jobAt state p ≡ x .job .0
+    stands = stands-at t p (x .job .0) state (w .stands)
 
     -- what a turn needs
     pub walking-adds : (x .start .0 ≤ x .end .0) × (g ≤ 60000000)
-    walking-adds = (omega (arith, w .is .starts, w .is .ends, start-end t (b .fills .sound) p cut-in (x .job .0) past), omega (arith, w .few, w .high, b .fills .few))
+    walking-adds = (omega (arith, w .is .starts, w .is .ends, start-end t (b .fills .range .sound) p cut-in (x .job .0) past), omega (arith, w .few, w .high, b .fills .range .few))
 
     pub walking-steps : (r : List ℕ) → Reciprocals t r → walked < n → Steps t places p r state
-    walking-steps r rs more = record {
-      at-job = record {
-        sound = b .fills .sound;
-        places = b .fills .places-are;
-        inside = b .fills .inside;
-        warm = rw stands-at past;
-        stands = rw stands-at (w .stands);
-        top = rw stands-at (omega (arith, b .fills .top, read-mono (at t p) (x .job .0 + 1) (first .job .0 + n + 1) (omega (arith, w .job))));
-      };
-      constants = rs;
-      top = rw stands-at (omega (arith, b .fills .top, read-mono (at t p) (x .job .0 + 1 + 1) (first .job .0 + n + 1) (omega (arith, w .job))));
-    }
+    walking-steps r rs more =
+        let e : first .job .0 + (walked - 1) ≡ x .job .0 = omega (arith, w .job, w .low) in
+        range-steps t places p (first .job .0) n (b .fills .range) (walked - 1) (omega (arith, w .low)) r state rs (rw e (w .stands))
 
     pub walking-turn : walked < n → (state′ : List ℕ) (y : Partition) → Stepped t p state state′ y → (last′ : ℕ) → last′ ≡ lastEnd x (y .start .0) last → (g′ : ℕ) (s′ l′ : List ℕ) → Added x (y .start .0) last g s l s′ l′ g′
         → Walking t p n (first .job .0) s₀ l₀ state′ s′ l′ (walked + 1) g′ last′ y
     walking-turn more state′ y st last′ le g′ s′ l′ ad =
-        let i : IsPartition t p (x .job .0 + 1) y = rw stands-at at (st .partition) in
+        let i : IsPartition t p (x .job .0 + 1) y = rw stands at (st .partition) in
         record {
           job = omega (arith, w .job, i .of);
           low = omega arith;
           high = omega arith;
           few = omega (arith, w .few, ad .count, added-few x (y .start .0) last);
           is = own t p (x .job .0 + 1) y i;
-          stands = rw (i .of) (rw stands-at at (st .stands));
+          stands = rw (i .of) (rw stands at (st .stands));
           going = rw (i .of)
               (going-turn t p (first .job .0) n s₀ l₀ (x .job .0) (n + 1 - walked) last g s l (w .going) x (y .start .0) (w .is .starts) (w .is .ends) (i .starts) (n + 1 - (walked + 1)) (omega arith) last′ le g′ s′ l′ ad);
         }
@@ -90,25 +79,18 @@ module _ (t : List Place) (places p n : ℕ) (first : Partition) (after : ℕ) (
     walking-leaves all =
         let e : first .job .0 + (n - 1) ≡ x .job .0 = omega (arith, w .job, w .high, w .low) in
         let st : Standing t p (first .job .0 + (n - 1)) state = rw e (w .stands) in
-        record { stands = st; gains = states-gain t (b .fills .sound) p cut-in (first .job .0) (b .fills .warm) (n - 1) (omega (arith, b .fills .round)) state₀ state (b .stands) st }
+        record { stands = st; gains = states-gain t (b .fills .range .sound) p cut-in (first .job .0) (b .fills .range .warm) (n - 1) (omega (arith, b .fills .round)) state₀ state (b .stands) st }
 
     -- the last partition: the start of the one after it is known
     pub walking-end : n ≤ walked → (g′ : ℕ) (s′ l′ : List ℕ) → Added x after last g s l s′ l′ g′ → (c : Count) → c .anchors ≡ g′ → c .walked ≡ walked → Filled t p (first .job .0) n s₀ l₀ s′ l′ c
     walking-end all g′ s′ l′ ad c anchors counted =
         let e : first .job .0 + n ≡ x .job .0 + 1 = omega (arith, w .job, w .high) in
         let turned = going-turn t p (first .job .0) n s₀ l₀ (x .job .0) (n + 1 - walked) last g s l (w .going) x after (w .is .starts) (w .is .ends) (b .fills .later ∙ ap (startOf t p) e) 0 (omega (arith, w .high)) (lastEnd x after last) refl g′ s′ l′ ad in
-        going-end t p (first .job .0) n s₀ l₀ (x .job .0 + 1) 0 (lastEnd x after last) g′ s′ l′ turned c (end-pos t (b .fills .sound) p cut-in) refl anchors (omega (arith, w .high))
+        going-end t p (first .job .0) n s₀ l₀ (x .job .0 + 1) 0 (lastEnd x after last) g′ s′ l′ turned c (end-pos t (b .fills .range .sound) p cut-in) refl anchors (omega (arith, w .high))
 
 -- ---- what `fill` needs and hands on
 
 module _ (t : List Place) (places p m n after : ℕ) (f : Fills t places p m n after) where
-  pub fill-cut : (Cut t p m) × (places ≡ length t) × (2 * places ≤ 24)
-  fill-cut = (
-    record { sound = f .sound; inside = omega (arith, f .inside, f .places-are); warm = f .warm; top = omega (arith, f .top, read-mono (at t p) (m + 1) (m + n + 1) (omega arith)) },
-    f .places-are,
-    omega (arith, f .places-are, f .sound .few),
-  )
-
   pub fill-begins : (state : List ℕ) (x : Partition) → First t p m state x → Begins t places p n x after state
   fill-begins state x fi = record {
     fills = rw (fi .partition .of) f;

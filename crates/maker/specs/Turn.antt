@@ -7,17 +7,15 @@ use lib.Dec.{eqb}
 use lib.ListN.{length}
 use lib.Seq.{sets}
 use Rattle.task.specs.declared.Place.{Place}
-use Rattle.task.specs.Jobs.{writeOf}
 use Rattle.chain.specs.Chains.{at}
-use Rattle.chain.specs.Checks.{Sound}
 use Rattle.chain.specs.Hyperperiod.{hyperOf}
-use Rattle.timing.specs.WarmUp.{warmAt}
 use Rattle.table.specs.Anchors.{Anchor, anchor}
 use Rattle.partition.specs.declared.Partition.{Partition}
 use Rattle.partition.specs.Lists.{rangeFrom}
 use Rattle.partition.specs.Partitions.{anchorsFrom, startOf, IsPartition}
 use Rattle.stepping.specs.OnePlace.{jobAt}
 use Rattle.stepping.specs.Standing.{Standing}
+use Rattle.outset.specs.Range.{Range}
 use Rattle.maker.specs.declared.Count.{Count}
 use Rattle.maker.specs.Making.{startsOf, latenciesOf, overlay}
 
@@ -45,16 +43,10 @@ pub record Added (x : Partition) (y q g : ℕ) (s l s′ l′ : List ℕ) (r : �
   pub first : s′ ≡ sets s g (startsOf (added x y q))
   pub second : l′ ≡ sets l g (latenciesOf (added x y q))
 
--- The n partitions from m on, from the warm-up job on and at most a whole range of them, and the start of the one after them; no tick is large.
+-- The n partitions from m on, at most a whole range of them, and the start of the one after them.
 pub record Fills (t : List Place) (places p m n after : ℕ) : Type 0 where
-  pub sound : Sound t
-  pub places-are : places ≡ length t
-  pub inside : p < places
-  pub warm : warmAt t p ≤ m
-  pub some : 1 ≤ n
+  pub range : Range t places p m n
   pub round : n ≤ hyperOf t / at t p .period
-  pub few : n ≤ 60000000
-  pub top : writeOf (at t p) (m + n + 1) ≤ 1000000000000
   pub later : after ≡ startOf t p (m + n)
 
 -- What the loop over the n partitions from m on leaves.

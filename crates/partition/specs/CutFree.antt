@@ -91,7 +91,7 @@ module _ (l : List Place) (ok : Sound l) (p : ℕ) (h : p < length l) where
   tail = let e : p + (lastPlace l - p) ≡ lastPlace l = omega arith in rw e (periods l ok (lastPlace l) last-in)
 
   -- the whole way in two parts
-  walk-parts : (j : ℕ) → walk l j ≡ forwardBy l p (lastPlace l - p) (forwardBy l 0 p j)
+  pub walk-parts : (j : ℕ) → walk l j ≡ forwardBy l p (lastPlace l - p) (forwardBy l 0 p j)
   walk-parts j =
       let e : lastPlace l ≡ p + (lastPlace l - p) = omega arith in
       let z : 0 + p ≡ p = omega arith in

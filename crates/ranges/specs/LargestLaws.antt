@@ -3,7 +3,7 @@ use Prim.Native.Nat.{ℕ, zero, suc, _+_, _-_, _≤_, _<_, max}
 use native.Mathlib.Omega.{arith}
 use native.Mathlib.Nat.{zero-add, suc-add, le-max-left, le-max-right}
 use native.Mathlib.Decide.{decLt, decLe}
-use mathlib.Core.Path.{_≡_, refl, _∙_}
+use mathlib.Core.Path.{_≡_, refl, ap, _∙_}
 use Rattle.ranges.specs.Largest.{largest}
 
 -- f has its largest among the n numbers from s on
@@ -48,6 +48,21 @@ module _ (f : ℕ → ℕ) where
   largest-parts (suc n) m s =
       let e : s + suc n ≡ suc s + n = omega arith in
       rw (suc-add, e) (omega (arith, largest-parts n m (suc s)))
+
+  -- of one number,
+  pub largest-one : (s : ℕ) → largest f s 1 ≡ f s
+  unfolding largest
+  largest-one s = omega arith
+
+  -- with one number more,
+  pub largest-next : (n s : ℕ) → largest f s (n + 1) ≡ max (largest f s n) (f (s + n))
+  largest-next n s = largest-parts n 1 s ∙ ap (max (largest f s n)) (largest-one (s + n))
+
+  -- of some of the numbers, which have no more than all,
+  pub largest-some : (k n s : ℕ) → k ≤ n → largest f s k ≤ largest f s n
+  largest-some k n s h =
+      let e : n ≡ k + (n - k) = omega arith in
+      rw e (rw (largest-parts k (n - k) s) (le-max-left (largest f s k) (largest f (s + k) (n - k))))
 
   -- of the numbers from s up to before t, with t as one more,
   pub largest-more : (s t : ℕ) → s ≤ t → largest f s (t + 1 - s) ≡ max (largest f s (t - s)) (f t)

@@ -1,3 +1,2 @@
-pub mod Longest
 pub mod Exits
 pub mod Parts

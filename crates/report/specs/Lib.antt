@@ -1,6 +1,4 @@
 pub mod Report
-pub mod LongestPlace
-pub mod Room
 pub mod Lent
 pub mod Ties
 pub mod Refusals

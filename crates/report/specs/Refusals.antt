@@ -9,6 +9,7 @@ use lib.ListN.{length}
 use borrow.Author.Tests.{eq-eqb}
 use Rattle.refusal.specs.Refusals.{refusal}
 use Rattle.chain.specs.declared.Chain.{Chain}
+use Rattle.chain.specs.declared.Verdict.{Verdict}
 use Rattle.chain.specs.declared.Verdict.the-variants as verdict
 use Rattle.chain.specs.Chains.{tasksOf}
 use Rattle.chain.specs.Hyperperiod.{hyperOf}
@@ -25,14 +26,18 @@ use Rattle.maker.specs.declared.Figures.{Figures}
 use Rattle.maker.specs.declared.Made.the-variants.{Whole, Short}
 use Rattle.maker.specs.Making.{judged, figuresOf, madeAfter, writtenAfter}
 use Rattle.table_text.specs.TableText.{refusedText, tableText}
-use Rattle.report.specs.Report.{longestPlace, madeText, chainText, scheduleText, fileText, reportOf}
-use Rattle.report.specs.LongestPlace.{longest-place}
-use Rattle.report.specs.Ties.{judgedText, inside}
+use Rattle.latency.specs.LongestPlace.{longestPlace, longest-place}
+use Rattle.latency.specs.Ties.{inside}
+use Rattle.report.specs.Report.{madeText, chainText, scheduleText, fileText, reportOf}
 
 pub data TableOrRefusal (text : List ℕ) : Type 0 where
   table : (f : Figures) (l : List Anchor) → text ≡ tableText f l → TableOrRefusal text
   seven : text ≡ refusedText (refusal 7 0) → TableOrRefusal text
   eleven : text ≡ refusedText (refusal 11 0) → TableOrRefusal text
+
+-- the text by what making judged
+abbrev judgedText : ℕ → Chain → ℕ → Verdict → List ℕ
+judgedText slots c p v = madeText (madeAfter c p slots v) (writtenAfter c p v)
 
 -- what making in so many slots gives of a chain whose hyperperiod alone is judged
 hyper-text : (slots : ℕ) (c : Chain) (p : ℕ) → TableOrRefusal (judgedText slots c p (hyperVerdict (tasksOf c)))

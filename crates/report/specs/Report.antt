@@ -1,33 +1,24 @@
 -- Document 01, program `chainreport`, with order 1 of document 02: the whole text for the bytes of a schedule file.
-use Prim.Native.Nat.{ℕ, zero, suc, _+_, _≤_, max}
+use Prim.Native.Nat.{ℕ, zero, suc, _≤_}
 use mathlib.Core.Path.{_≡_}
 use mathlib.Core.Bool.{cond}
-use mathlib.Core.List.{List, [], _∷_, _++_, map}
+use mathlib.Core.List.{List, [], _∷_, _++_}
 use lib.Dec.{eqb}
 use lib.ListN.{length}
 use Rattle.refusal.specs.Refusals.{refusal}
-use Rattle.task.specs.declared.Place.{Place}
 use Rattle.chain.specs.declared.Chain.{Chain}
 use Rattle.chain.specs.Chains.{tasksOf}
 use Rattle.schedule.specs.declared.Schedule.{Schedule}
-use Rattle.schedule.specs.Schedules.{positionOf, chainAt}
+use Rattle.schedule.specs.Schedules.{chainAt}
 use Rattle.file_reader.specs.declared.FileRead.{FileRead}
 use Rattle.file_reader.specs.Reading.{readFile}
 use Rattle.table.specs.Anchors.{Anchor}
 use Rattle.maker.specs.declared.Made.{Made}
 use Rattle.maker.specs.declared.Made.the-variants.{Whole, Short, Refused}
 use Rattle.maker.specs.Making.{madeOf, writtenOf, overlay}
+use Rattle.latency.specs.LongestPlace.{longestPlace}
 use Rattle.text.specs.Text.{ascii, line}
 use Rattle.table_text.specs.TableText.{refusedText, tableText}
-
--- The longest period of a chain,
-unfoldable pub longestPeriod : List Place → ℕ
-longestPeriod [] = 0
-longestPeriod (t ∷ l) = max (t .period) (longestPeriod l)
-
--- and its place, counted from 1; the lowest place among equals.
-unfoldable pub longestPlace : List Place → ℕ
-longestPlace l = positionOf (longestPeriod l) (map (λ (t : Place). t .period) l) + 1
 
 -- What making answered. Where the slots do not hold all anchors the one line is that of 11, which has no place.
 unfoldable pub madeText : Made → List Anchor → List ℕ

@@ -23,7 +23,8 @@ use Rattle.figures.specs.Figures.{delaySum, doubledArea}
 use Rattle.maker.specs.Making.{judged, madeAfter, writtenAfter}
 use Rattle.text.specs.Text.{ascii, lastDigits, decimal, fields, line}
 use Rattle.table_text.specs.TableText.{anchorLines, headText, meanText, figuresText, tableText}
-use Rattle.report.specs.Report.{longestPeriod, longestPlace, madeText, chainText, partText, partsText, scheduleText, fileText, reportOf}
+use Rattle.latency.specs.LongestPlace.{longestPeriod, longestPlace}
+use Rattle.report.specs.Report.{madeText, chainText, partText, partsText, scheduleText, fileText, reportOf}
 
 -- Chain A, tasks 1 and 2 in a file of 48 bytes.
 abbrev pub fileA : List ℕ

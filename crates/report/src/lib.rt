@@ -7,31 +7,11 @@ use schedule::Schedule;
 ghost use mathlib.Core.Path.{_≡_};
 ghost use Prim.Native.Nat.{_+_, _≤_};
 ghost use lib.ListN.{length};
-ghost use Rattle.chain.specs.Chains.{tasksOf};
 ghost use Rattle.text.specs.Text.{Puts};
 ghost use Rattle.table_text.specs.TableText.{longestTable};
-ghost use Rattle.report.specs.Report.{longestPlace, chainText, partText, scheduleText, Reports};
+ghost use Rattle.report.specs.Report.{chainText, partText, scheduleText, Reports};
 
-// The place of the longest period, counted from 1; the lowest among equals.
-fn longest_place(c: Chain) -> usize
-    ensures { λ r. ⌜ r ≡ longestPlace (tasksOf c) ⌝ }
-{
-    let n = schedule::at_most(c.places, 12);
-    let mut longest: u64 = 0;
-    let mut place: usize = 1;
-    let mut i: usize = 0;
-    while i < n {
-        let t = c.tasks[i];
-        i += 1;
-        if longest < t.period {
-            longest = t.period;
-            place = i;
-        }
-    }
-    place
-}
-
-// The text of a chain, made in two lists of 1,024 slots.
+// The text of a chain, cut at the longest period and made in two lists of 1,024 slots.
 fn put_chain(
     out: &mut [u8],
     at: usize,
@@ -42,7 +22,10 @@ fn put_chain(
     requires { ⌜ (length (now starts) ≡ 1024) × (length (now latencies) ≡ 1024) × (at ≤ 92000) ⌝ }
     ensures { λ n. ⌜ (Puts (chainText 1024 c) at (now (out .entry)) (now (out .exit)) n) × (n ≤ at + longestTable) ⌝ }
 {
-    let m = maker::make_table(c, longest_place(c), starts, latencies);
+    let tasks = chain::flat(c);
+    let n = chain::flat_length(c.places);
+    let p = latency::longest_place(&tasks[..n], c.gap);
+    let m = maker::make_table_on(&tasks[..n], c.gap, p, starts, latencies);
     match m {
         Made::Refused(r) => table_text::put_refusal(out, at, r),
         Made::Short(_) => table_text::put_refusal(

@@ -42,7 +42,7 @@ unfoldable pub positionOf : ℕ → List ℕ → ℕ
 positionOf n [] = 0
 positionOf n (m ∷ l) = cond (eqb m n) 0 (suc (positionOf n l))
 
--- A number is that of a task.
+-- A number is one of a list's, as of the numbers of tasks.
 unfoldable pub known : List ℕ → ℕ → Bool
 known [] n = false
 known (m ∷ l) n = cond (eqb m n) true (known l n)

@@ -1,7 +1,7 @@
--- Document 01, "Survey examples": A1 to A8, B, C, D and E, and the examples of orders 2 and 5 of document 02, as one computed list with one conclusion. Every row
+-- Document 01, "Survey examples": A1 to A8, B, C, D and E, and the examples of orders 2, 5 and 6 of document 02, as one computed list with one conclusion. Every row
 -- is computed from the definitions that the calls' contracts cite; a call's answer is turned into plain numbers: of a refusal its number and its place, of a
 -- success 0 and its values.
-use Prim.Native.Nat.{ℕ, _+_, _-_}
+use Prim.Native.Nat.{ℕ, zero, suc, _+_, _-_}
 use mathlib.Core.Path.{_≡_, refl}
 use mathlib.Core.List.{List, [], _∷_, _++_, map}
 use lib.ListN.{length, take, replicate}
@@ -48,6 +48,10 @@ use Rattle.windows.specs.declared.Windows.{Windows}
 use Rattle.windows.specs.declared.Windows.the-variants as window
 use Rattle.windows.specs.Windows.{spanOf, misses, missesIn, windowOf, mostMisses, earliestJob, windowsAfter, windowsOf}
 use Rattle.windows.specs.Windows as windows-of
+use Rattle.schedule.specs.Schedules.{padded}
+use Rattle.latency.specs.Latency.{greatestLatency}
+use Rattle.sections.specs.declared.Sections.{Sections}
+use Rattle.sections.specs.Sections as sections
 
 -- ---- the chains
 
@@ -142,6 +146,14 @@ range c = (warmAt (tasksOf c) 0 + 1) ∷ (warmAt (tasksOf c) 0 + windows-of.star
 abbrev counts : Chain → ℕ → ℕ → List ℕ
 counts c b k = windowOf (tasksOf c) b k 1 ∷ windowOf (tasksOf c) b k 2 ∷ windowOf (tasksOf c) b k 3 ∷ []
 
+-- The number of sections, the sum, and the sections' latencies.
+abbrev sectionsIs : ℕ → Sections → List ℕ
+sectionsIs zero s = 0 ∷ s .count ∷ s .sum ∷ take (s .count) (s .latencies)
+sectionsIs (suc n) s = suc n ∷ s .refusal .place ∷ []
+
+abbrev cut : Chain → List ℕ → List ℕ
+cut c cuts = sectionsIs (sections.sectionsAnswer c cuts .refusal .number) (sections.sectionsAnswer c cuts)
+
 -- ---- the list
 
 unfoldable pub computed : List (List ℕ)
@@ -175,6 +187,9 @@ computed =
     -- order 5 of document 02: C with gap 1, cut at 1 and at 2; with the greatest gap; and a gap above it
     ∷ starts (gapped 1 C) 1 ∷ latencies (gapped 1 C) 1 ∷ starts (gapped 1 C) 2 ∷ latencies (gapped 1 C) 2
     ∷ warm (gapped 1 C) ∷ warm (gapped 1000 C) ∷ verdictIs (verdictOf (gapped 1001 C))
+    -- order 6 of document 02: chain A in one piece and cut in the middle; with gap 7; and cuts that are 0, the last place, or not rising
+    ∷ cut A [] ∷ cut A (1 ∷ []) ∷ cut (gapped 7 A) [] ∷ cut (gapped 7 A) (1 ∷ [])
+    ∷ cut A (0 ∷ []) ∷ cut A (2 ∷ []) ∷ cut A (1 ∷ 1 ∷ [])
     -- D
     ∷ warm D ∷ ticksOf (delayOf D 90) ∷ ticksOf (delayOf D 89)
     -- E: no place, 13 places, H at its limit and above
@@ -182,7 +197,7 @@ computed =
     ∷ verdictIs (verdictOf (E 768)) ∷ verdictIs (verdictOf (E 769))
     ∷ []
 
--- What the documents say, in the same order; the warm-ups of chain C with a gap follow from order 5, which does not name them.
+-- What the documents say, in the same order; the warm-ups of chain C with a gap follow from order 5, and chain A with gap 7 from orders 5 and 6, which do not name them.
 abbrev pub said : List (List ℕ)
 said =
     (0 ∷ 12 ∷ 0 ∷ 0 ∷ 1 ∷ [])
@@ -202,11 +217,13 @@ said =
     ∷ (0 ∷ []) ∷ (15 ∷ []) ∷ (0 ∷ []) ∷ (15 ∷ [])
     ∷ (0 ∷ []) ∷ (20 ∷ []) ∷ (0 ∷ []) ∷ (20 ∷ [])
     ∷ (0 ∷ 5 ∷ 0 ∷ 0 ∷ 2 ∷ []) ∷ (0 ∷ 5 ∷ 0 ∷ 0 ∷ 201 ∷ []) ∷ (5 ∷ 0 ∷ [])
+    ∷ (0 ∷ 1 ∷ 18 ∷ 18 ∷ []) ∷ (0 ∷ 2 ∷ 20 ∷ 8 ∷ 12 ∷ []) ∷ (0 ∷ 1 ∷ 26 ∷ 26 ∷ []) ∷ (0 ∷ 2 ∷ 27 ∷ 8 ∷ 12 ∷ [])
+    ∷ (17 ∷ 0 ∷ []) ∷ (17 ∷ 0 ∷ []) ∷ (17 ∷ 0 ∷ [])
     ∷ (0 ∷ 10 ∷ 90 ∷ 9 ∷ 0 ∷ []) ∷ (0 ∷ 16 ∷ []) ∷ (12 ∷ 0 ∷ [])
     ∷ (8 ∷ 0 ∷ []) ∷ (8 ∷ 0 ∷ [])
     ∷ (0 ∷ 60000000 ∷ []) ∷ (7 ∷ 0 ∷ [])
     ∷ []
 
 pub survey : computed ≡ said
-unfolding computed withinLimits earliestFrom latestOver forwardLink backwardLink euclid gcdOf lcmOf forwardBy onLatest backwardBy hyperFrom firstFault hyperVerdict afterGap verdictFor leastFrom warmLast warmAt warmTick delayAt firstAged ageAt entries warmUpAfter spanAfter anchors spaced wellFormed read.reading read.delayAt read.lastAt greatest lowTo low total everyAbove longestRun ticks delaySum doubledArea exceedance greatestOf lowOf meanOf exceedanceOf rangeFrom keep fresh dropRepeats startOf endOf keeps anchorsFrom judged madeAfter writtenAfter spanOf misses missesIn largest mostMisses earliestJob windowsAfter
+unfolding computed withinLimits earliestFrom latestOver forwardLink backwardLink euclid gcdOf lcmOf forwardBy onLatest backwardBy hyperFrom firstFault hyperVerdict afterGap verdictFor leastFrom warmLast warmAt warmTick delayAt firstAged ageAt entries warmUpAfter spanAfter anchors spaced wellFormed read.reading read.delayAt read.lastAt greatest lowTo low total everyAbove longestRun ticks delaySum doubledArea exceedance greatestOf lowOf meanOf exceedanceOf rangeFrom keep fresh dropRepeats startOf endOf keeps anchorsFrom judged madeAfter writtenAfter spanOf misses missesIn largest mostMisses earliestJob windowsAfter padded sections.partsFrom sections.risesTo sections.added sections.sectionsAfter greatestLatency
 survey = refl

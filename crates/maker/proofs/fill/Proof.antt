@@ -1,6 +1,7 @@
 use mathlib.Core.Path.{refl}
 use Rattle.chain.specs.Flat.{tasksIn}
-use Rattle.maker.proofs.Walking.{fill-cut, fill-begins, fill-one, fill-adds}
+use Rattle.outset.specs.Range.{range-cut}
+use Rattle.maker.proofs.Walking.{fill-begins, fill-one, fill-adds}
 use borrow.Author.Needs.{needs}
 use Rattle.maker.proofs.fill.Statement.{statement}
 use Rattle.maker.proofs.fill.Tie as tie
@@ -9,7 +10,7 @@ slice-aggregate-first : tie.Need-slice-aggregate-first
 slice-aggregate-first c = search needs
 
 first-requires : tie.Need-first-requires
-first-requires c κs = let s = c .before .before .before .before in fill-cut (tasksIn (s .args .gap) (s .args .tasks .now)) (s .args .places) (s .args .p) (s .args .from .0) (s .args .n) (s .args .after .0) (s .pre)
+first-requires c κs = let s = c .before .before .before .before in range-cut (tasksIn (s .args .gap) (s .args .tasks .now)) (s .args .places) (s .args .p) (s .args .from .0) (s .args .n) (s .pre .range)
 
 add-anchor-requires : tie.Need-add-anchor-requires
 add-anchor-requires c κs = let s = c .before .before .before .before .before .before .before .before .before in fill-adds (tasksIn (s .args .gap) (s .args .tasks .now)) (s .args .places) (s .args .p) (s .args .from .0) (s .args .n) (s .args .after .0) (s .pre) _ _ (c .before .before .before .before .first .ensures)

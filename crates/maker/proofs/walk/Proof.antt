@@ -34,7 +34,7 @@ last-end-requires : tie.Need-last-end-requires Inv-loop μ-loop
 last-end-requires c κs = tt
 
 add-walked : tie.Need-add-walked Inv-loop μ-loop
-add-walked c = omega (arith, c .before .before .before .before .before .before .before .before .before .before .before .before .before .before .before .before .before .before .before .before .pre .0 .fills .few, c .before .before .before .before .before .before .before .before .before .before .before .before .before .loop-test .taken)
+add-walked c = omega (arith, c .before .before .before .before .before .before .before .before .before .before .before .before .before .before .before .before .before .before .before .before .pre .0 .fills .range .few, c .before .before .before .before .before .before .before .before .before .before .before .before .before .loop-test .taken)
 
 loop-less : tie.Need-loop-less Inv-loop μ-loop
 loop-less c = omega (arith, c .before .before .before .before .before .before .before .before .before .before .before .before .before .loop-test .taken)

@@ -9,8 +9,7 @@ use Rattle.chain.proofs.CheckLaws.{Facts, accepted}
 use Rattle.maker.specs.declared.Made.the-variants.{Whole}
 use Rattle.maker.specs.Making.{figuresOf, madeOf}
 use Rattle.agreement.specs.EveryChain.{Asked, room-enough}
-use Rattle.report.specs.Report.{longestPeriod, longestPlace}
-use Rattle.report.specs.LongestPlace.{longest-place, longest-is}
+use Rattle.latency.specs.LongestPlace.{longestPeriod, longestPlace, longest-place, longest-is}
 
 pub longest-room : (c : Chain) → length (c .tasks) ≡ 12 → (p h a b : ℕ) → Asked c p h a b → h / longestPeriod (tasksOf c) ≤ a → madeOf c p a b ≡ Whole (figuresOf c p h)
 longest-room c twelve p h a b asked room =

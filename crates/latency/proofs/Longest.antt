@@ -6,16 +6,14 @@ use mathlib.Core.Path.{_≡_, refl, sym, _∙_}
 use mathlib.Core.Bool.{cond}
 use mathlib.Core.List.{List, [], _∷_}
 use lib.Dec.{ltb, leb}
-use lib.ListN.{length, take, drop, getD}
+use lib.ListN.{length, drop}
 use borrow.Author.Tests.{lt-ltb, le-ltb, le-leb, lt-leb, eq-eqb}
-use Rattle.task.specs.declared.Task.{Task}
 use Rattle.task.specs.declared.Place.{Place}
-use Rattle.chain.specs.Chains.{placed, zeroTask}
-use Rattle.chain.proofs.Front.{front-cons, front-end}
+use Rattle.chain.specs.Chains.{at, zeroPlace}
+use Rattle.chain.proofs.Front.{rest-cons, rest-end}
 use Rattle.schedule.specs.Schedules.{positionOf}
-use Rattle.report.specs.Report.{longestPeriod, longestPlace}
 use Rattle.schedule.specs.Numbers.{position-here, position-past}
-use Rattle.report.specs.LongestPlace.{periods, first-longest, later-longer}
+use Rattle.latency.specs.LongestPlace.{longestPeriod, longestPlace, periods, first-longest, later-longer}
 
 -- what the loop ends with, b being the longest period so far, p its place, and i the number of tasks before l
 unfoldable pub pick : ℕ → ℕ → ℕ → List Place → ℕ
@@ -84,19 +82,15 @@ pick-all l = sym (pick-found l 0 1 0 ∙ go)
 
 -- ---- one turn
 
--- the tasks of the chain's array, at places with the gap g
-module _ (g : ℕ) (ts : List Task) (n i : ℕ) (inside : n ≤ length ts) where
-  abbrev period : ℕ
-  period = getD ts i zeroTask .period
-
-  pub pick-longer : (b p : ℕ) → i < n → b < period → pick b p i (placed g (drop i (take n ts))) ≡ pick period (i + 1) (i + 1) (placed g (drop (i + 1) (take n ts)))
+module _ (l : List Place) (i : ℕ) where
+  pub pick-longer : (b p : ℕ) → i < length l → b < at l i .period → pick b p i (drop i l) ≡ pick (at l i .period) (i + 1) (i + 1) (drop (i + 1) l)
   unfolding pick
-  pick-longer b p h k = rw (front-cons ts n i zeroTask h inside, lt-ltb b (getD ts i zeroTask .period) k)
+  pick-longer b p h k = rw (rest-cons l i zeroPlace h, lt-ltb b (at l i .period) k)
 
-  pub pick-not : (b p : ℕ) → i < n → period ≤ b → pick b p i (placed g (drop i (take n ts))) ≡ pick b p (i + 1) (placed g (drop (i + 1) (take n ts)))
+  pub pick-not : (b p : ℕ) → i < length l → at l i .period ≤ b → pick b p i (drop i l) ≡ pick b p (i + 1) (drop (i + 1) l)
   unfolding pick
-  pick-not b p h k = rw (front-cons ts n i zeroTask h inside, le-ltb b (getD ts i zeroTask .period) k)
+  pick-not b p h k = rw (rest-cons l i zeroPlace h, le-ltb b (at l i .period) k)
 
-  pub pick-end : (b p : ℕ) → n ≤ i → pick b p i (placed g (drop i (take n ts))) ≡ p
+  pub pick-end : (b p : ℕ) → length l ≤ i → pick b p i (drop i l) ≡ p
   unfolding pick
-  pick-end b p h = rw (front-end ts n i h inside)
+  pick-end b p h = rw (rest-end l i h)

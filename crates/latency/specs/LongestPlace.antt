@@ -1,5 +1,5 @@
--- The place that the definition names is inside the chain, no place has a longer period, and each lower place has a shorter one.
-use Prim.Native.Nat.{ℕ, zero, suc, _+_, _-_, _≤_, _<_}
+-- Document 01: the cut "at the longest period (lowest place among equals)". That its place is inside the chain, no place has a longer period, and each lower place has a shorter one is `longest-place`.
+use Prim.Native.Nat.{ℕ, zero, suc, _+_, _-_, _≤_, _<_, max}
 use native.Mathlib.Omega.{arith}
 use native.Mathlib.Decide.{decLe}
 use mathlib.Core.Path.{_≡_, refl}
@@ -9,10 +9,18 @@ use Rattle.task.specs.declared.Place.{Place}
 use Rattle.chain.specs.Chains.{at}
 use Rattle.schedule.specs.Schedules.{positionOf}
 use Rattle.schedule.specs.Numbers.{position-here, position-past}
-use Rattle.report.specs.Report.{longestPeriod, longestPlace}
 
 abbrev pub periods : List Place → List ℕ
 periods = map (λ (t : Place). t .period)
+
+-- The longest period of a chain,
+unfoldable pub longestPeriod : List Place → ℕ
+longestPeriod [] = 0
+longestPeriod (t ∷ l) = max (t .period) (longestPeriod l)
+
+-- and its place, counted from 1; the lowest place among equals.
+unfoldable pub longestPlace : List Place → ℕ
+longestPlace l = positionOf (longestPeriod l) (periods l) + 1
 
 module _ (t : Place) (l : List Place) where
   pub first-longest : longestPeriod l ≤ t .period → longestPeriod (t ∷ l) ≡ t .period

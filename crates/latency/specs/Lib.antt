@@ -1,0 +1,7 @@
+pub mod LongestPlace
+pub mod Latency
+pub mod GreatestDelay
+pub mod AnyCut
+pub mod Walk
+pub mod Room
+pub mod Ties

@@ -1,0 +1,10 @@
+pub mod Sections
+pub mod Uniform
+pub mod Parts
+pub mod OneCut
+pub mod TwoSections
+pub mod CutLaws
+pub mod EveryCut
+pub mod Alone
+pub mod PartOfList
+pub mod Standing
