@@ -16,11 +16,12 @@
  *   libcapi_timing.a    mo_check, mo_warm_up, mo_delay, mo_age
  *   libcapi_maker.a     mo_make_table
  *   libcapi_windows.a   mo_windows
+ *   libcapi_sections.a  mo_sections
  *   libcapi_file.a      mo_read_file, mo_write_file, mo_chain_of_schedule
  *   libcapi_bookings.a  mo_bookings
  *   libcapi_report.a    mo_report
- * libcapi_file.a, libcapi_bookings.a and libcapi_report.a need memcpy and memset from the C library, libcapi_maker.a and
- * libcapi_windows.a memset; the other three need nothing (`nm -u` on an archive tells; tests/c/run looks).
+ * libcapi_file.a, libcapi_bookings.a and libcapi_report.a need memcpy and memset from the C library, libcapi_maker.a, libcapi_windows.a
+ * and libcapi_sections.a memset; the other three need nothing (`nm -u` on an archive tells; tests/c/run looks).
  *
  * The archives are for x86-64, in position-independent code that uses its SSE2 registers. The toolchain compiles for no other processor
  * today: the proofs say nothing of a processor, and the back end that turns proved code into machine code has this one target. On an
@@ -37,6 +38,8 @@
  * cut at the longest period: at most 0.1 s a chain. mo_bookings goes once through the common hyperperiod, from one change of a booking to
  * the next, and a change costs each place of its chain twice: 0.5 s for one place of period 1 beside 768 and 78,125, and at the worst,
  * twelve places of period 1 beside 16, 9, 5, 7, 11, 23 and 47, 10 s.
+ * mo_sections walks, of each section, h / T partitions, h being the section's own hyperperiod and T its longest period, and makes no list:
+ * SECTIONTIME. Cuts cost nothing: the first that is out of order ends the look at them, so no more than twelve are read.
  * (One run on a server's processor; an instrument's takes longer.) Nothing else that is lent makes a call take long.
  *
  * Stack. What each call needs below its caller's frame, in bytes, is MO_STACK_ below: measured on x86-64 and rounded up, not proved. The C
@@ -61,6 +64,7 @@ extern "C" {
 #define MO_STACK_READ_TABLE 128u
 #define MO_STACK_FIGURES 128u /* each of mo_greatest, mo_low, mo_mean, mo_throughput and mo_exceedance */
 #define MO_STACK_WINDOWS 1216u
+#define MO_STACK_SECTIONS 1024u
 #define MO_STACK_READ_FILE 3136u
 #define MO_STACK_WRITE_FILE 5248u
 #define MO_STACK_CHAIN_OF_SCHEDULE 7232u
@@ -68,7 +72,7 @@ extern "C" {
 #define MO_STACK_REPORT 22848u
 
 /*
- * Refusals: the numbers of document 01, and 16 of order 1 in document 02; order 5 there adds the gap to 5.
+ * Refusals: the numbers of document 01, and 16 and 17 of orders 1 and 6 in document 02; order 5 there adds the gap to 5.
  */
 #define MO_FILE_ENDS_EARLY 1u          /* reading a file: fewer than 4 bytes remain, or a record runs past the file */
 #define MO_RECORD_LENGTH_WRONG 2u      /* reading a file: a length below 4, or one that its kind does not have */
@@ -86,6 +90,7 @@ extern "C" {
 #define MO_TABLE_NOT_WELL_FORMED 14u
 #define MO_WINDOW_OUTSIDE_LIMITS 15u   /* windows: k is not 1 to 100 */
 #define MO_CHAIN_UNKNOWN 16u           /* a schedule: it has no chain of that number; they count from 1 */
+#define MO_CUTS_NOT_RISING 17u         /* sections: the cuts do not rise strictly, or one is not 1 to places - 1 */
 
 /*
  * Every call but mo_read_table and mo_report answers a code: 0 for a success, else a refusal's number and 256 times its place. The place is
@@ -189,7 +194,7 @@ uint64_t mo_exceedance(const uint64_t *starts, size_t starts_length,
  *   MO_TASK_OUTSIDE_LIMITS     T is not 1 to 1,000,000, D not 1 to 4,000,000 or F above 1,000,000; at the lowest such place, from 1;
  *   MO_TASK_OUTSIDE_LIMITS     gap is above 1,000; at place 0;
  *   MO_HYPERPERIOD_TOO_LONG    the least common multiple of the periods at the places is above 60,000,000;
- * mo_make_table and mo_windows go on as they say, and mo_delay and mo_age after these with
+ * mo_make_table, mo_windows and mo_sections go on as they say, and mo_delay and mo_age after these with
  *   MO_TICK_TOO_EARLY          the tick is below the warm-up tick for mo_delay, below the write of the last warm-up job for mo_age;
  *   MO_TICK_TOO_LATE           the tick is above MO_UPPER_TICK.
  */
@@ -245,6 +250,26 @@ uint64_t mo_make_table(const uint64_t *tasks, size_t tasks_length, size_t places
  */
 uint64_t mo_windows(const uint64_t *tasks, size_t tasks_length, size_t places, uint64_t gap, uint64_t b, uint64_t k,
                     uint64_t *misses, uint64_t *first);
+
+/*
+ * Sections, for makers of boards that know only their part of a chain: the chain is cut after the places in cuts, where cut c parts place c
+ * from the next, and each section is analysed as a chain of its own, with its own warm-up and the same gap. latencies[0] on become the
+ * greatest latency of each section, in order, and the other entries 0; count becomes the number of sections, cuts_length + 1; sum becomes
+ * the latencies together and one gap for each cut. All twelve entries of latencies are written, and cuts are not. With no cut at all there
+ * is one section, the whole chain, and the sum is its greatest latency, which mo_greatest gives of its table; cuts_length is then 0, and
+ * cuts points somewhere all the same.
+ *
+ * The whole chain's greatest latency is at most the sum, however it is cut, and each cut adds at least 1 to it: cutting a section further
+ * never lowers the sum. That is proved (crates/sections, crates/capi_sections), and so is that the maker of a board gets the same figure
+ * for his section alone, lent as a chain of its own with the same gap and no cut. So whoever adds up what the makers promise, and one gap for
+ * each cut, is never too low.
+ *
+ * Refuses, after the chain's own refusals:
+ *   MO_CUTS_NOT_RISING   a cut is 0, not below places or not above the one before; at place 0. So no more than places - 1 cuts pass.
+ */
+uint64_t mo_sections(const uint64_t *tasks, size_t tasks_length, size_t places, uint64_t gap,
+                     const uint64_t *cuts, size_t cuts_length,
+                     uint64_t latencies[12], uint64_t *count, uint64_t *sum);
 
 /* ---- Schedules and their files ----
  *

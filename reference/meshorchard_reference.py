@@ -1,9 +1,9 @@
 """Reference program of Meshorchard: delay tables for chains of
 fixed-duration tasks of cave-survey laser instruments.
 
-It is written from document 01 and orders 1 to 3 and 5 of document 02 alone
-and follows their definitions as literally as running time allows.  It uses
-the standard library only.  Order 4 changes no answer.
+It is written from document 01 and orders 1 to 3, 5 and 6 of document 02
+alone and follows their definitions as literally as running time allows.  It
+uses the standard library only.  Order 4 changes no answer.
 
 Conventions
   A task is (T, D, F): period, duration, phase.
@@ -655,6 +655,63 @@ def windows(tasks, gap, B, k):
 
 
 # ---------------------------------------------------------------------------
+# Sections of a chain
+# ---------------------------------------------------------------------------
+
+def greatest_latency(tasks, gap):
+    """The greatest latency of an accepted chain, as a plain number.
+
+    Document 01: "the largest of the first g latencies", so of the anchors.
+    Every cut gives the same anchors.  At the longest period the range of m
+    is the shortest.
+    """
+    p = longest_period_place(tasks)
+    return max(latency for _start, latency in anchors(tasks, gap, p))
+
+
+def cuts_within_rule(cuts, places):
+    """Whether the cuts rise strictly and lie within 1 to places - 1.
+
+    A list of 12 or more cuts cannot do both, so its length needs no rule.
+    """
+    inside = all(1 <= cut <= places - 1 for cut in cuts)
+    rising = all(cuts[index] < cuts[index + 1]
+                 for index in range(len(cuts) - 1))
+    return inside and rising
+
+
+def parts_of(tasks, cuts):
+    """The tasks of each section, in order; the cuts are within their rule.
+
+    "c parts place c from the next": a section ends with place c, and the
+    next one begins with place c + 1, which has index c.
+    """
+    begins = [0] + list(cuts)
+    ends = list(cuts) + [len(tasks)]
+    return [tasks[begin:end] for begin, end in zip(begins, ends)]
+
+
+def sections(tasks, gap, cuts):
+    """Sections: ("ok", [each one's greatest latency], sum), or a refusal.
+
+    Document 02, order 6: "each section is analysed as a chain with its own
+    warm-up, and the sum of the greatest latencies plus one gap for each cut
+    is answered with each section's greatest latency, in order."  Refusals:
+    8, 5, 7, the chain's own; 17 for the cuts.  No section is refused, since
+    its places are some of the chain's and its H divides the chain's.
+    """
+    answer = check_chain(tasks, gap)
+    if answer[0] != "ok":
+        return answer
+    if not cuts_within_rule(cuts, len(tasks)):
+        return refused(17)
+    # The gap counts inside a section, at each of its links, and once more
+    # at each cut, which is a link of the whole chain.
+    latencies = [greatest_latency(part, gap) for part in parts_of(tasks, cuts)]
+    return ("ok", latencies, sum(latencies) + gap * len(cuts))
+
+
+# ---------------------------------------------------------------------------
 # Two chains
 # ---------------------------------------------------------------------------
 
@@ -973,6 +1030,14 @@ def windows_of(task_count, tasks, chain_count, chains, gap, n, B, k):
     if chain[0] != "ok":
         return chain
     return windows(chain[1], gap, B, k)
+
+
+def sections_of(task_count, tasks, chain_count, chains, gap, n, cuts):
+    """Sections of chain n.  Refusals 8, 5, 6, 16, then those of sections."""
+    chain = chain_of_schedule(task_count, tasks, chain_count, chains, gap, n)
+    if chain[0] != "ok":
+        return chain
+    return sections(chain[1], gap, cuts)
 
 
 def bookings_of(task_count, tasks, chain_count, chains, gap, first, second,

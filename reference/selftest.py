@@ -371,7 +371,7 @@ def group_survey_b_to_e(_rng):
     for answer in (ref.check_chain(above, 0), ref.warm_up(above, 0),
                    ref.delay(above, 0, 500_000), ref.age(above, 0, 500_000),
                    ref.make(above, 0, 1, [], [])[0],
-                   ref.windows(above, 0, 1, 1)):
+                   ref.windows(above, 0, 1, 1), ref.sections(above, 0, [1])):
         same(answer, ("refused", 7, 0), "E above the limit")
 
 
@@ -1100,6 +1100,8 @@ def group_call_refusals(_rng):
             same(ref.make(tasks, gap, p, [], []), (refusal, [], []), "make")
         for k in (0, 1):
             same(ref.windows(tasks, gap, 0, k), refusal, "windows")
+        for cuts in ([], [1], [0]):
+            same(ref.sections(tasks, gap, cuts), refusal, "sections")
 
     def all_calls(tasks, refusal):
         """A gap above the limit comes after 8 and 5 and before 7."""
@@ -1120,7 +1122,7 @@ def group_call_refusals(_rng):
             all_calls(tasks, ("refused", 5, place))
     all_calls(huge, ("refused", 7, 0))
     # The gap alone is refused, also where there is no link, and before 9,
-    # 10, 12, 13 and 15, all of which would follow.
+    # 10, 12, 13, 15 and 17, all of which would follow.
     for tasks in ([good], [good] * 2, [good] * 12, limit, CHAIN_A):
         for gap in (1_001, 1_002, 2_000, 65_536, 2 ** 32, 2 ** 32 + 1,
                     2 ** 63, 2 ** 64 - 1):
@@ -1135,6 +1137,8 @@ def group_call_refusals(_rng):
                  "13 with gap %d" % gap)
             same(ref.windows(tasks, gap, 0, 0), ("refused", 15, 0),
                  "15 with gap %d" % gap)
+            same(ref.sections(tasks, gap, [12]), ("refused", 17, 0),
+                 "17 with gap %d" % gap)
     same(ref.check_chain(limit, 0), ("ok", 1_000_000), "limits pass")
     same(ref.check_chain([good] * 12, 0), ("ok", 10), "12 places pass")
     for k in (0, 101, 2 ** 64 - 1):
@@ -2013,6 +2017,7 @@ def schedule_faults(rng, choose):
         same(ref.make_of(*arguments, n, 0, [1], [2, 3]),
              (expected, [1], [2, 3]), "make")
         same(ref.windows_of(*arguments, n, 0, 0), expected, "windows")
+        same(ref.sections_of(*arguments, n, [0]), expected, "sections")
         same(ref.bookings_of(*arguments, n, m, UPPER + 1), expected,
              "bookings")
     same(min(met.values()) > 100, True, "each fault often")
@@ -2070,6 +2075,7 @@ def schedule_analyses(rng, choose):
                 same(ref.make_of(*arguments, n, 0, [1], [2, 3]),
                      (refusal, [1], [2, 3]), what)
                 same(ref.windows_of(*arguments, n, B, k), refusal, what)
+                same(ref.sections_of(*arguments, n, [0]), refusal, what)
                 for m in range(len(chains) + 2):
                     same(ref.bookings_of(*arguments, n, m, t), refusal, what)
                     same(ref.bookings_of(*arguments, m, n, t), refusal, what)
@@ -3199,6 +3205,512 @@ def group_gap_and_phases(rng):
              "bookings " + what)
 
 
+# ---------------------------------------------------------------------------
+# Sections, order 6
+# ---------------------------------------------------------------------------
+
+CHAIN_FOUR = [(5, 2, 0), (7, 3, 1), (10, 4, 3), (4, 1, 2)]
+# Lists that are refused with 17 for every chain.
+NOT_CUTS = [[0], [2 ** 64 - 1], [1, 1], [2, 1], list(range(12)),
+            list(range(1, 13)), list(range(1, 14)), [1] * 13]
+
+
+def literal_greatest(tasks, gap):
+    """The largest delay, tick by tick, over one hyperperiod from x0."""
+    x0 = tasks[0][2] + literal_warm_up(tasks, gap)[0] * tasks[0][0]
+    return max(literal_delay(tasks, gap, x0 + offset)
+               for offset in range(literal_hyperperiod(tasks)))
+
+
+def literal_parts(tasks, cuts):
+    """The sections, place by place.
+
+    The first place opens one, and so does each place that comes next after
+    a cut.
+    """
+    parts = []
+    for place, task in enumerate(tasks, start=1):
+        if place == 1 or place - 1 in cuts:
+            parts.append([])
+        parts[-1].append(task)
+    return parts
+
+
+def all_cut_lists(places):
+    """Every permitted list of cuts: each place but the last parts or not."""
+    return [cuts for count in range(places)
+            for cuts in itertools.combinations(range(1, places), count)]
+
+
+def greatest_of_two(first, second, gap):
+    """The greatest latency of a chain of two places, without a walk.
+
+    A press at a read waits a period for the next job.  The wait from write
+    + gap to the read is the same number modulo the greatest common divisor
+    of the periods, and in one hyperperiod it takes each such value below
+    the second period.
+    """
+    (T, D, F), (next_T, next_D, next_F) = first, second
+    step = math.gcd(T, next_T)
+    longest_wait = next_T - step + (next_F - F - D - gap) % step
+    return T + D + gap + longest_wait + next_D
+
+
+def group_sections_by_hand(_rng):
+    million = 1_000_000
+    worst = [(million, 4 * million, million)] * 12
+    # Here each read comes a tick too early, as in the gap by hand.
+    twelve = [(million, 4 * million, 999 * i) for i in range(12)]
+    each = list(range(1, 12))
+    # Chain, gap, cuts, the sections' greatest latencies, sum, and that of
+    # the whole.  A place alone has T + D.
+    cases = [
+        ("A", CHAIN_A, 0, [], [18], 18, 18),
+        ("A", CHAIN_A, 0, [1], [8, 12], 20, 18),
+        # The table with gap 1 is (0, 18), (4, 20).
+        ("A", CHAIN_A, 1, [1], [8, 12], 21, 20),
+        ("A", CHAIN_A, 1, [], [20], 20, 20),
+        # A press at 4 is read at 8, written at 12, readable at 19, read at
+        # 24 and written at 30: 26.  One at 0: 4, 8, 15, 18, 24: 24.  One at
+        # 8: 12, 16, 23, 24, 30: 22.
+        ("A", CHAIN_A, 7, [1], [8, 12], 27, 26),
+        ("A", CHAIN_A, 7, [], [26], 26, 26),
+        ("B", CHAIN_B, 0, [], [13], 13, 13),
+        ("B", CHAIN_B, 1_000, [], [13], 13, 13),
+        ("C", CHAIN_C, 0, [1], [10, 10], 20, 15),
+        ("C", CHAIN_C, 1, [1], [10, 10], 21, 20),
+        ("C", CHAIN_C, 5, [1], [10, 10], 25, 20),
+        ("C", CHAIN_C, 6, [1], [10, 10], 26, 25),
+        ("D", CHAIN_D, 0, [1], [12, 11], 23, 16),
+        # Place 2 alone has its warm-up at 50.  From tick 0, the warm-up of
+        # the whole, a press would wait for the read at 50: 51.
+        ("late", [(100, 1, 0), (10, 1, 50)], 0, [1], [101, 11], 112, 111),
+        ("late", [(100, 1, 0), (10, 1, 50)], 0, [], [111], 111, 111),
+        # Place 2 alone has its warm-up at 0, long before that of the whole.
+        # The periods have no common divisor, so some value waits 6 ticks.
+        ("early", [(10, 1, 100), (7, 1, 0)], 0, [1], [11, 8], 19, 18),
+        ("four", CHAIN_FOUR, 0, [], [31], 31, 31),
+        ("four", CHAIN_FOUR, 0, [2], [16, 18], 34, 31),
+        ("four", CHAIN_FOUR, 0, [1, 2, 3], [7, 10, 14, 5], 36, 31),
+        ("four", CHAIN_FOUR, 1_000, [2], [1_016, 1_018], 3_034, 3_031),
+        ("four", CHAIN_FOUR, 1_000, [1, 2, 3], [7, 10, 14, 5], 3_036, 3_031),
+        ("worst", worst, 0, each, [5 * million] * 12, 60 * million,
+         49 * million),
+        ("worst", worst, 1_000, each, [5 * million] * 12, 60_011_000,
+         60 * million),
+        ("worst", worst, 1_000, [], [60 * million], 60 * million,
+         60 * million),
+        # The largest sum of all, eleven above the longest latency of all.
+        ("twelve", twelve, 1_000, each, [5 * million] * 12, 60_011_000,
+         60_010_989),
+        # Two halves with 5 links each: 30,000,000 and 5 times 999.
+        ("twelve", twelve, 1_000, [6], [30_004_995] * 2, 60_010_990,
+         60_010_989),
+        ("twelve", twelve, 1_000, [1, 11], [5 * million, 50_008_991,
+                                            5 * million], 60_010_991,
+         60_010_989),
+    ]
+    for name, tasks, gap, cuts, latencies, total, whole in cases:
+        what = "%s with gap %d cut at %r" % (name, gap, cuts)
+        given = list(cuts)
+        same(ref.sections(tasks, gap, given), ("ok", latencies, total), what)
+        same(given, cuts, what + ", the list given stays")
+        same(ref.greatest_latency(tasks, gap), whole, what + ", the whole")
+        same(ref.sections(tasks, gap, []), ("ok", [whole], whole),
+             what + ", no cut")
+        same(whole + len(cuts) <= total, True, what + ", whole and sum")
+        numbers = {task: 5 + 3 * index
+                   for index, task in enumerate(sorted(set(tasks)))}
+        arguments = schedule([(number, *task)
+                              for task, number in numbers.items()],
+                             [[5], [numbers[task] for task in tasks]], gap)
+        same(ref.sections_of(*arguments, 2, cuts), ("ok", latencies, total),
+             what + ", from a schedule")
+    # Period 1 reads at every tick, so each value is read when it becomes
+    # readable.  A section of k places has 1, its durations and k - 1 gaps.
+    # Durations are powers of two, which tell the places of a section.
+    # All 2,048 lists of cuts of 12 places.
+    powers = [(1, 2 ** index, 0) for index in range(12)]
+    for cuts in all_cut_lists(12):
+        edges = [0, *cuts, 12]
+        for gap in (0, 1_000):
+            latencies = [1 + 2 ** end - 2 ** begin + (end - begin - 1) * gap
+                         for begin, end in zip(edges, edges[1:])]
+            same(ref.sections(powers, gap, list(cuts)),
+                 ("ok", latencies, 1 + 4_095 + 11 * gap + len(cuts)),
+                 "powers with gap %d cut at %r" % (gap, cuts))
+
+
+def group_greatest_latency(rng):
+    """The greatest latency against the largest delay, and at all places."""
+    chains = [(tasks, gap) for tasks in (CHAIN_A, CHAIN_B, CHAIN_C, CHAIN_D,
+                                         CHAIN_X, CHAIN_FOUR)
+              for gap in (0, 1, 2, 3, 7, 1_000)]
+    for turn in range(300):
+        tasks = small_chain(rng, 60 if turn % 10 else 240,
+                            most_places=5 if turn % 7 else 12)
+        gap = no_gap(rng) if turn % 4 == 0 else small_gap(rng, tasks)
+        chains.append((tasks, gap))
+    later = 0
+    for tasks, gap in chains:
+        what = "%r gap %d" % (tasks, gap)
+        found = ref.greatest_latency(tasks, gap)
+        same(found, literal_greatest(tasks, gap), "greatest latency " + what)
+        same(ref.sections(tasks, gap, []), ("ok", [found], found),
+             "no cut " + what)
+        H = literal_hyperperiod(tasks)
+        for p in range(1, len(tasks) + 1):
+            same(max(latency for _start, latency
+                     in ref.anchors(tasks, gap, p)), found,
+                 "anchors of %s cut at %d" % (what, p))
+            made, starts, latencies = ref.make(tasks, gap, p, [0] * H,
+                                               [0] * H)
+            same(ref.greatest(starts, latencies, made[1], H), ("ok", found),
+                 "table of %s cut at %d" % (what, p))
+        # "the greatest age is one less than the greatest delay"
+        T, D, F = tasks[-1]
+        z0 = F + literal_warm_up(tasks, gap)[-1] * T + D
+        same(max(literal_age(tasks, gap, z0 + offset)
+                 for offset in range(H)), found - 1, "greatest age " + what)
+        if len(tasks) == 1:
+            same(found, sum(tasks[0][:2]), "one place " + what)
+        if len(tasks) == 2:
+            same(found, greatest_of_two(*tasks, gap), "two places " + what)
+        later += ref.anchors(tasks, gap, 1)[0][1] < found
+    same(later > 30, True, "often met: the first anchor is not the greatest")
+
+
+def group_sections(rng):
+    """Each section by literal walks, for every list of cuts."""
+    chains = [(tasks, gap) for tasks in (CHAIN_A, CHAIN_B, CHAIN_C, CHAIN_D,
+                                         CHAIN_X, CHAIN_FOUR)
+              for gap in (0, 1, 2, 7)]
+    for turn in range(200):
+        tasks = small_chain(rng, 60)
+        gap = no_gap(rng) if turn % 4 == 0 else small_gap(rng, tasks)
+        chains.append((tasks, gap))
+    for tasks, gap in chains:
+        known = {}
+        for cuts in all_cut_lists(len(tasks)):
+            latencies = []
+            total = 0
+            for part in literal_parts(tasks, cuts):
+                if tuple(part) not in known:
+                    known[tuple(part)] = literal_greatest(part, gap)
+                if latencies:
+                    # A cut lies before this section.
+                    total += gap
+                latencies.append(known[tuple(part)])
+                total += latencies[-1]
+            what = "%r gap %d cut at %r" % (tasks, gap, cuts)
+            same(ref.sections(tasks, gap, list(cuts)),
+                 ("ok", latencies, total), what)
+            same(ref.parts_of(tasks, cuts), literal_parts(tasks, cuts), what)
+
+
+def check_cut_lists(tasks, gap, met):
+    """What order 6 says of all lists of cuts, and one more for each cut.
+
+    A value that leaves a section at its write w is readable at w + gap.  So
+    it passes the next section as one pressed at w + gap - 1, the last tick
+    before that read.  That is one tick below what the sum has for the cut.
+    """
+    what = "%r gap %d" % (tasks, gap)
+    sums = {cuts: ref.sections(tasks, gap, list(cuts))[2]
+            for cuts in all_cut_lists(len(tasks))}
+    whole = ref.greatest_latency(tasks, gap)
+    same(sums[()], whole, "no cut " + what)
+    for cuts, total in sums.items():
+        # At most the sum.
+        same(whole <= total, True, "whole of %s and %r" % (what, cuts))
+        same(whole + len(cuts) <= total, True,
+             "whole and cuts of %s and %r" % (what, cuts))
+        for further, larger in sums.items():
+            if not set(cuts) < set(further):
+                continue
+            pair = "%s, %r and %r" % (what, cuts, further)
+            # Cutting further never lowers the sum.
+            same(total <= larger, True, pair)
+            more = len(further) - len(cuts)
+            same(total + more <= larger, True, pair + ", and the cuts")
+            kind = "just" if total + more == larger else "above"
+            met[kind] = met.get(kind, 0) + 1
+
+
+def group_cut_lists(rng):
+    met = {}
+    for tasks in (CHAIN_A, CHAIN_B, CHAIN_C, CHAIN_D, CHAIN_X, CHAIN_FOUR):
+        for gap in (0, 1, 2, 3, 5, 6, 7, 999, 1_000):
+            check_cut_lists(tasks, gap, met)
+    for turn in range(160):
+        tasks = small_chain(rng, 120 if turn % 4 else 360)
+        for gap in {0, 1, 1_000, small_gap(rng, tasks), wide_gap(rng)}:
+            check_cut_lists(tasks, gap, met)
+            if turn % 4 == 0:
+                check_cut_lists(tightened(rng, tasks, gap), gap, met)
+    for kind in ("just", "above"):
+        same(met.get(kind, 0) > 1_000, True, "often met: " + kind)
+
+
+def sectioned_chain(rng, gap):
+    """A chain over the full range whose sections have few partitions."""
+    while True:
+        tasks = large_chain(rng)
+        edges = range(len(tasks) + 1)
+        parts = [tasks[begin:end]
+                 for begin, end in itertools.combinations(edges, 2)]
+        if all(math.lcm(*[task[0] for task in part])
+               <= 60 * max(task[0] for task in part) for part in parts):
+            return tightened(rng, tasks, gap) if rng.random() < 0.5 else tasks
+
+
+def group_sections_in_turn(rng):
+    """A press that passes the sections one after another.
+
+    Each section gets the value as one pressed at the tick before it becomes
+    readable.  The last section's booking is that of the whole, and no
+    section needs more than its greatest latency.
+    """
+    for turn in range(300):
+        if turn % 2:
+            tasks = small_chain(rng, 60)
+            gap = small_gap(rng, tasks)
+        else:
+            gap = wide_gap(rng)
+            tasks = sectioned_chain(rng, gap)
+        n = len(tasks)
+        cuts = sorted(rng.sample(range(1, n), rng.randint(0, n - 1)))
+        what = "%r gap %d cut at %r" % (tasks, gap, cuts)
+        _ok, latencies, _sum = ref.sections(tasks, gap, cuts)
+        _ok, _way, x0, H = ref.warm_up(tasks, gap)
+        presses = range(x0, x0 + H) if H <= 60 else \
+            [x0, x0 + 1] + [rng.randint(x0, x0 + 2 * H) for _ in range(20)]
+        for t in presses:
+            tick = t
+            for part, latency in zip(literal_parts(tasks, cuts), latencies):
+                word, found = ref.delay(part, gap, tick)
+                # The section is past its own warm-up.
+                same(word, "ok", what)
+                same(found <= latency, True, what)
+                tick += found + gap - 1
+            same(tick - gap + 1 - t, ref.walked_delay(tasks, gap, t), what)
+
+
+def group_sections_large(rng):
+    """Sections over the full range, with up to 11 cuts."""
+    met = {}
+    for turn in range(200):
+        gap = wide_gap(rng)
+        tasks = sectioned_chain(rng, gap)
+        n = len(tasks)
+        most = rng.randint(0, n - 1)
+        further = sorted(rng.sample(range(1, n), most))
+        cuts = sorted(rng.sample(further, rng.randint(0, most)))
+        answers = {}
+        for chosen in ([], cuts, further, list(range(1, n))):
+            what = "%r gap %d cut at %r" % (tasks, gap, chosen)
+            answer = ref.sections(tasks, gap, chosen)
+            answers[tuple(chosen)] = answer
+            word, latencies, total = answer
+            same((word, len(latencies)), ("ok", len(chosen) + 1), what)
+            same(total - sum(latencies), len(chosen) * gap, what + ", gaps")
+            for part, latency in zip(literal_parts(tasks, chosen), latencies):
+                # The table of the section, cut somewhere.
+                p = rng.randint(1, len(part))
+                if math.lcm(*[task[0] for task in part]) \
+                        <= 300 * part[p - 1][0]:
+                    same(max(one for _start, one
+                             in ref.anchors(part, gap, p)), latency, what)
+                if len(part) == 1:
+                    same(latency, part[0][0] + part[0][1], what)
+                if len(part) == 2:
+                    same(latency, greatest_of_two(*part, gap), what)
+                # As in the bounds of delays.
+                links = len(part) - 1
+                same(sum(D for _T, D, _F in part) + links * gap < latency
+                     <= sum(T + D for T, D, _F in part) + links * (gap - 1),
+                     True, what + ", bounds")
+            same(total <= 60_011_000, True, what + ", the largest sum")
+        # Every place by itself: nothing but T + D and the gaps.
+        same(answers[tuple(range(1, n))],
+             ("ok", [T + D for T, D, _F in tasks],
+              sum(T + D for T, D, _F in tasks) + (n - 1) * gap),
+             "every place of %r gap %d" % (tasks, gap))
+        # Ever further cuts: each adds at least one.
+        chosen = []
+        steps = rng.sample(range(1, n), n - 1)
+        total = ref.sections(tasks, gap, chosen)[2]
+        same(total, ref.greatest_latency(tasks, gap), "no cut")
+        for cut in steps:
+            chosen = sorted(chosen + [cut])
+            larger = ref.sections(tasks, gap, chosen)[2]
+            same(total + 1 <= larger, True,
+                 "%r gap %d cut at %r, last %d" % (tasks, gap, chosen, cut))
+            kind = "just" if total + 1 == larger else "above"
+            met[kind] = met.get(kind, 0) + 1
+            total = larger
+        same(answers[tuple(cuts)][2] + len(further) - len(cuts)
+             <= answers[tuple(further)][2], True,
+             "%r gap %d, %r and %r" % (tasks, gap, cuts, further))
+    for kind in ("just", "above"):
+        same(met.get(kind, 0) > 100, True, "often met: " + kind)
+
+
+def group_section_refusals(_rng):
+    refusal = ("refused", 17, 0)
+    highest = 2 ** 64 - 1
+    # Every list of numbers up to places + 1: it passes where it is one of
+    # the lists of cuts that there are.
+    for places in (1, 2, 3, 4):
+        tasks = CHAIN_FOUR[:places]
+        permitted = set(all_cut_lists(places))
+        same(len(permitted), 2 ** (places - 1), "lists of cuts")
+        for length in range(places + 1):
+            for cuts in itertools.product(range(places + 2), repeat=length):
+                for gap in (0, 1_000):
+                    found = ref.sections(tasks, gap, list(cuts))
+                    same(found if found[0] == "refused" else None,
+                         None if cuts in permitted else refusal,
+                         "%d places cut at %r" % (places, cuts))
+    # By hand, for 1, 2, 5 and 12 places.
+    cases = [(1, [0]), (1, [1]), (1, [2]), (1, [highest]), (1, [1, 2]),
+             (2, [0]), (2, [2]), (2, [3]), (2, [0, 1]), (2, [1, 1]),
+             (2, [1, 2]), (2, [highest]), (2, [1, highest]),
+             (2, [2 ** 32 + 1]), (2, [2 ** 16 + 1]), (2, [257]),
+             (5, [0]), (5, [5]), (5, [6]), (5, [0, 2]), (5, [2, 2]),
+             (5, [3, 2]), (5, [1, 3, 2]), (5, [1, 3, 3, 4]), (5, [4, 5]),
+             (5, [1, 2, 3, 4, 5]), (5, [0, 1, 2, 3, 4]), (5, [4, 3, 2, 1]),
+             (5, [2, 1, 3]), (5, [1, 2, 4, 3]), (5, [1, 2, 3, highest]),
+             (5, [highest, 1]), (5, [highest, highest]), (5, [4, 1]),
+             (12, [0]), (12, [12]), (12, [13]), (12, [11, 12]),
+             (12, [0, 11]), (12, [11, 11]), (12, [11, 10]),
+             # Eleven cuts with one fault, twelve and thirteen cuts.
+             (12, list(range(11))), (12, list(range(2, 13))),
+             (12, [1, 2, 3, 4, 5, 6, 7, 8, 9, 11, 10]),
+             (12, [1, 2, 3, 4, 5, 5, 7, 8, 9, 10, 11]),
+             (12, list(range(1, 13))), (12, list(range(12))),
+             (12, list(range(1, 12)) + [11]), (12, list(range(1, 12)) + [1]),
+             (12, list(range(1, 12)) + [highest]),
+             (12, list(range(1, 14))), (12, list(range(13))),
+             (12, list(range(1, 12)) + [11, 11]), (12, [5] * 12),
+             (12, [highest] * 13), (12, list(range(12, 0, -1))),
+             (12, list(range(1_000)))]
+    for places, cuts in cases:
+        tasks = (CHAIN_FOUR * 3)[:places]
+        arguments = schedule([(7 + index, *task)
+                              for index, task in enumerate(tasks)],
+                             [[7], [7 + index for index in range(places)]],
+                             1_000)
+        for gap in (0, 1, 1_000):
+            same(ref.sections(tasks, gap, cuts), refusal,
+                 "%d places cut at %r" % (places, cuts))
+            same(ref.sections_of(*arguments[:4], gap, 2, cuts), refusal,
+                 "%d places of a schedule cut at %r" % (places, cuts))
+    for places, cuts in ((1, []), (2, []), (2, [1]), (5, [4]), (5, [1]),
+                         (5, [1, 2, 3, 4]), (12, [11]), (12, [1, 11]),
+                         (12, list(range(1, 12))), (12, list(range(2, 12)))):
+        same(ref.sections((CHAIN_FOUR * 3)[:places], 0, cuts)[0], "ok",
+             "%d places cut at %r" % (places, cuts))
+    # The chain's own checks come first, whatever the cuts are.
+    good = (10, 1, 0)
+    bad = [(0, 1, 0), (1_000_001, 1, 0), (1, 0, 0), (1, 4_000_001, 0),
+           (1, 1, 1_000_001)]
+    huge = [(999_983, 1, 0), (999_979, 1, 0)]
+    every = NOT_CUTS + [[], [1], [1, 2], [11], [12]]
+    for cuts in every:
+        for gap in (0, 1_000, 1_001, highest):
+            same(ref.sections([], gap, cuts), ("refused", 8, 0), "no place")
+            for tasks in ([good] * 13, [bad[0]] * 13):
+                same(ref.sections(tasks, gap, cuts), ("refused", 8, 0),
+                     "13 places")
+            for one in bad:
+                for place in range(1, 13):
+                    tasks = huge + [good] * 10
+                    tasks[place - 1] = one
+                    same(ref.sections(tasks, gap, cuts),
+                         ("refused", 5, place), "5 before 17")
+                    tasks[11] = one
+                    same(ref.sections(tasks, gap, cuts),
+                         ("refused", 5, place), "lowest place")
+        for tasks in ([good], CHAIN_A, CHAIN_FOUR, [good] * 12, huge):
+            for gap in (1_001, 1_002, 2 ** 32, highest):
+                same(ref.sections(tasks, gap, cuts), ("refused", 5, 0),
+                     "the gap before 7 and 17")
+        for gap in (0, 1, 1_000):
+            # Each section of huge cut at 1 would pass.
+            same(ref.sections(huge, gap, cuts), ("refused", 7, 0),
+                 "7 before 17")
+            same(ref.sections(huge * 6, gap, cuts), ("refused", 7, 0),
+                 "7 before 17, 12 places")
+    for cuts in NOT_CUTS:
+        for tasks in (CHAIN_A, CHAIN_FOUR, [good], [good] * 12):
+            same(ref.sections(tasks, 0, cuts), refusal, "%r" % cuts)
+
+
+def group_sections_of_schedules(rng):
+    refusal = ("refused", 17, 0)
+    for turn in range(100):
+        chains = [small_chain(rng, 40) for _ in range(1 + turn % 4)]
+        gap = no_gap(rng) if turn % 3 == 0 else small_gap(rng, *chains)
+        arguments = schedule(*schedule_of_chains(rng, chains), gap)
+        for n, tasks in enumerate(chains, start=1):
+            what = "chain %d of %r gap %d" % (n, chains, gap)
+            for cuts in all_cut_lists(len(tasks)):
+                latencies = [literal_greatest(part, gap)
+                             for part in literal_parts(tasks, cuts)]
+                same(ref.sections_of(*arguments, n, list(cuts)),
+                     ("ok", latencies, sum(latencies) + len(cuts) * gap),
+                     "%s cut at %r" % (what, cuts))
+            for cuts in NOT_CUTS + [[len(tasks)], [len(tasks) + 1]]:
+                same(ref.sections_of(*arguments, n, cuts), refusal, what)
+        for n in (0, len(chains) + 1, 5, 2 ** 64 - 1):
+            for cuts in NOT_CUTS + [[], [1]]:
+                same(ref.sections_of(*arguments, n, cuts),
+                     ("refused", 16, 0), "16 before 17")
+    # 8, 5, 6, 16, 7, 17, one after another.  Tasks 4 and 5 together are 7.
+    tasks = [(1, 10, 1, 0), (2, 10, 2, 0), (3, 10, 1, 95), (4, 999_983, 1, 0),
+             (5, 999_979, 1, 0)]
+    chains = [[1], [2, 3], [4, 5], [4]]
+    arguments = schedule(tasks, chains, 0)
+    same(ref.sections_of(*arguments, 2, [1]), ("ok", [12, 11], 23), "D")
+    every = NOT_CUTS + [[], [1], [2]]
+    for cuts in every:
+        for gap in (0, 1, 1_000):
+            same(ref.sections_of(*arguments[:4], gap, 3, cuts),
+                 ("refused", 7, 0), "7 before 17")
+            for n, numbers in ((1, [1]), (2, [2, 3]), (4, [4])):
+                found = ref.sections_of(*arguments[:4], gap, n, cuts)
+                passes = cuts == [] or (cuts == [1] and len(numbers) == 2)
+                same(found if found[0] == "refused" else None,
+                     None if passes else refusal, "chain %d" % n)
+    junk = [(0, [1] * 12)]
+    faults = [(("refused", 8, 0), (0, *arguments[1:])),
+              (("refused", 8, 0), (33, *arguments[1:])),
+              (("refused", 8, 0), (*arguments[:2], 0, *arguments[3:])),
+              (("refused", 8, 0), (*arguments[:2], 5, *arguments[3:])),
+              (("refused", 8, 0), (*arguments[:3], arguments[3][:3] + junk,
+                                   0)),
+              (("refused", 8, 0), (0, *arguments[1:4], 1_001)),
+              (("refused", 5, 4), schedule(tasks[:3] + [(3, 0, 1, 0)],
+                                           [[9]], 0)),
+              (("refused", 5, 4), schedule(tasks[:3] + [(3, 0, 1, 0)],
+                                           [[9]], 1_001)),
+              # A task of no chain is a fault of the schedule too.
+              (("refused", 5, 3), schedule(tasks[:2] + [(3, 10, 0, 0)],
+                                           [[1, 2]], 0)),
+              (("refused", 5, 0), (*arguments[:4], 1_001)),
+              (("refused", 5, 0), schedule(tasks, [[1], [2, 9], [9]],
+                                           2 ** 64 - 1)),
+              (("refused", 6, 2), schedule(tasks, [[1], [2, 9], [9]], 0)),
+              (("refused", 6, 1), schedule(tasks, [[1, 2], [4, 5], [9]],
+                                           1_000))]
+    for expected, faulty in faults:
+        for n in (0, 1, 2, 3, 5, 2 ** 64 - 1):
+            for cuts in every:
+                same(ref.sections_of(*faulty, n, cuts), expected,
+                     "the schedule first")
+
+
 GROUPS = [
     ("survey example A", group_survey_a),
     ("survey examples B to E", group_survey_b_to_e),
@@ -3253,6 +3765,14 @@ GROUPS = [
     ("full-range values with gaps", group_full_range_with_gaps),
     ("bounds with gaps", group_bounds_with_gaps),
     ("mean on finer clocks with gaps", group_mean_on_finer_clocks_with_gaps),
+    ("sections by hand", group_sections_by_hand),
+    ("greatest latency of a chain", group_greatest_latency),
+    ("sections by literal walks", group_sections),
+    ("whole and sums for all lists of cuts", group_cut_lists),
+    ("one press through the sections", group_sections_in_turn),
+    ("sections, large values", group_sections_large),
+    ("refusals of sections", group_section_refusals),
+    ("sections by chain number", group_sections_of_schedules),
 ]
 
 

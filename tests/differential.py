@@ -138,11 +138,14 @@ def lists_of_tasks(ours, r, factor, compare):
         gap = r.choice([0, 1, inputs.MOST_GAP, *inputs.FAULTY_GAPS])
         compare.same(ours.delay(numbers, places, gap, 100), eight, "length", numbers, gap)
         compare.same(ours.warm_up(numbers, places, gap), eight, "length", numbers, gap)
+        cuts = r.choice([[], [1], [0], [proved.LARGEST]])
+        compare.same(ours.sections(numbers, places, gap, cuts), eight, "length", numbers, gap, cuts)
         whole = inputs.flat(tasks)
         # The last two would be the right count to a call that kept fewer bits.
         for places in (len(tasks) + 1, 13, 2**63, proved.LARGEST, len(tasks) + 2**32, len(tasks) + 2**63):
             compare.same(ours.age(whole, places, gap, 100), eight, "places", whole, places, gap)
             compare.same(ours.check(whole, places, gap), eight, "places", whole, places, gap)
+            compare.same(ours.sections(whole, places, gap, cuts), eight, "places", whole, places, gap, cuts)
 
 
 def compare_making(ours, r, tasks, gap, numbers, p, lengths, compare):
@@ -307,6 +310,59 @@ def windows_refused(ours, r, factor, compare):
         for k in (0, 1, 101, 2**32 + 1, proved.LARGEST):
             compare_windows(ours, numbers, tasks, gap, inputs.any_number(r), k, compare)
     compare.must_meet("ok", 5, OF_GAP, 7, 8, 15)
+
+
+def compare_sections(ours, numbers, tasks, gap, cuts, compare):
+    """One answer, which is the reference's."""
+    theirs = reference.sections(tasks, gap, cuts)
+    compare.same(ours.sections(numbers, len(tasks), gap, cuts), theirs, "sections", tasks, gap, cuts)
+    compare.meet_call(theirs)
+    return theirs
+
+
+def compare_further(sums, compare, *about):
+    """Each cut adds at least 1: of every two lists of cuts of which one has all cuts of the other."""
+    for cuts, total in sums.items():
+        for more, larger in sums.items():
+            if set(cuts) < set(more):
+                compare.same(total + len(more) - len(cuts) <= larger, True, "each cut adds at least 1", *about, cuts, more)
+                if total + len(more) - len(cuts) == larger:
+                    compare.note("exactly 1 for each cut")
+
+
+@group
+def sections(ours, r, factor, compare):
+    """sections: every list of cuts of short chains, some of long ones, the whole chain's greatest latency, and further cuts"""
+    for i in range(int(9000 * factor)):
+        tasks, gap = inputs.linked(r, inputs.far_chain(r) if i % 150 == 0 else inputs.cut_chain(r))
+        if i % 3 == 0:
+            gap = r.choice([0, 1, inputs.MOST_GAP])
+        numbers, warm = lent(r, tasks), reference.warm_up(tasks, gap)
+        note_links(tasks, gap, warm, compare)
+        lists = inputs.all_cuts(len(tasks)) if len(tasks) < 5 else [[], *(inputs.some_cuts(r, len(tasks)) for _ in range(4))]
+        answers = {tuple(cuts): compare_sections(ours, numbers, tasks, gap, cuts, compare) for cuts in lists}
+        compare.note(f"{max(map(len, answers))} cuts")
+        compare_further({cuts: answer[2] for cuts, answer in answers.items()}, compare, tasks, gap)
+        if i % 5 == 0:
+            # In one piece it is the greatest latency of the table.
+            made, starts, latencies = ours.make(numbers, len(tasks), gap, 1, [0] * 4096, [0] * 4096)
+            if made[0] == "ok":
+                compare.same(("ok", answers[()][2]), ours.greatest(proved.Table(starts, latencies, made[1], made[3])), "the whole", tasks, gap)
+                compare.note("the table's")
+    compare.must_meet("ok", "exactly 1 for each cut", "the table's", *(f"{k} cuts" for k in (0, 1, 2, 3, 11)), *LINKS)
+
+
+@group
+def sections_refused(ours, r, factor, compare):
+    """sections refused: chains, and cuts that do not rise or lie outside"""
+    for _ in range(int(3000 * factor)):
+        tasks, gap = inputs.any_linked(r, inputs.any_chain(r) if r.random() < 0.5 else inputs.cut_chain(r))
+        if reference.check_chain(tasks, gap)[0] == "ok" and math.lcm(*[t for t, _, _ in tasks]) > 100 * max(t for t, _, _ in tasks):
+            continue
+        numbers, n = lent(r, tasks), max(1, min(len(tasks), 12))
+        for cuts in [*inputs.faulty_cuts(r, n), inputs.some_cuts(r, n)]:
+            compare_sections(ours, numbers, tasks, gap, cuts, compare)
+    compare.must_meet("ok", 5, OF_GAP, 7, 8, 17)
 
 
 def compare_figures(ours, lent, table, compare):
@@ -742,6 +798,10 @@ def compare_analyses(ours, r, schedule, number, tasks, compare):
         compare.same(analysed(ours, schedule, number, ours.age, t), reference.age_of(*said, t), "age", schedule, number, t)
     b, k = r.choice(window_bounds(r, tasks, schedule.gap, warm)), r.choice([0, 1, 2, r.randint(3, 100), 101])
     compare.same(analysed(ours, schedule, number, ours.windows, b, k), reference.windows_of(*said, b, k), "windows", schedule, number, b, k)
+    cuts = r.choice([inputs.some_cuts(r, len(tasks)), r.choice(inputs.faulty_cuts(r, len(tasks)))])
+    mine, theirs = analysed(ours, schedule, number, ours.sections, cuts), reference.sections_of(*said, cuts)
+    compare.same(mine, theirs, "sections", schedule, number, cuts)
+    compare.meet_call(theirs)
     p, size = r.randint(0, len(tasks) + 1), r.choice([0, 1, 3, 60, 60])
     starts, latencies = inputs.lent_lists(r, size, size)
     mine = analysed(ours, schedule, number, ours.make, p, starts, latencies)
@@ -757,7 +817,7 @@ def compare_analyses(ours, r, schedule, number, tasks, compare):
 
 @group
 def chosen_chains(ours, r, factor, compare):
-    """analyses from a schedule: warm-up, delay, age, windows and making of each chain, and of numbers that no chain has"""
+    """analyses from a schedule: warm-up, delay, age, windows, sections and making of each chain, and of numbers that no chain has"""
     for i in range(int(400 * factor)):
         chains, schedule = analysed_chains(r)
         for number, tasks in enumerate(chains, start=1):
@@ -773,7 +833,7 @@ def chosen_chains(ours, r, factor, compare):
                 dataclasses.replace(schedule, gap=r.choice(inputs.FAULTY_GAPS)),
             ])
             compare_analyses(ours, r, faulty, r.choice([1, len(chains), 0, 9]), chains[0], compare)
-    compare.must_meet("ok", 5, OF_GAP, 6, 7, 8, 16, *LINKS)
+    compare.must_meet("ok", 5, OF_GAP, 6, 7, 8, 16, 17, *LINKS)
 
 
 # ---- Two chains side by side

@@ -356,6 +356,27 @@ def wide_window_chain(r):
             return tasks
 
 
+def all_cuts(n):
+    """Every list of cuts of a chain of n places, the empty one first."""
+    return [list(cuts) for k in range(n) for cuts in itertools.combinations(range(1, n), k)]
+
+
+def some_cuts(r, n):
+    """A list of cuts of a chain of n places: few, some or all of them."""
+    return sorted(r.sample(range(1, n), r.choice([0, min(1, n - 1), r.randint(0, n - 1), n - 1])))
+
+
+def faulty_cuts(r, n):
+    """Lists that are no cuts of a chain of n places: a cut that is 0, equal, falling, after the last place or far beyond, alone or in a list that is right else; and lists too long."""
+    right = some_cuts(r, n)
+    low, high = right[0] if right else n, right[-1] if right else 0
+    far = [n, n + 1, 12, 2**32 + 1, 2**63, LARGEST]
+    lists = [[0], [0, *right], [*right, r.choice(far)], [r.choice(far), *right], [*right, high], [low, *right], list(range(1, 13)), list(range(1, 14)), [r.choice(far)]]
+    if len(right) > 1:
+        lists += [right[::-1], [*right[:-1], right[0]]]
+    return lists
+
+
 def lent_lists(r, n, m):
     """Two lent lists of these lengths, with rubbish in them."""
     return [r.randint(0, LARGEST) for _ in range(n)], [r.randint(0, LARGEST) for _ in range(m)]

@@ -52,6 +52,15 @@ def windows(flat, places, gap, b, k):
     return answered(calls.windows, Chain(flat, places, gap), b, k)
 
 
+def sections(flat, places, gap, cuts):
+    """The sections' latencies and the sum. The cuts must stay as they were."""
+    lent_cuts = array("Q", cuts)
+    answer = answered(calls.sections, Chain(flat, places, gap), lent_cuts)
+    if lent_cuts != array("Q", cuts):
+        return ("changed", answer)
+    return ("ok", list(answer[1]), answer[2]) if answer[0] == "ok" else answer
+
+
 def warm_up(flat, places, gap):
     answer = answered(calls.warm_up, Chain(flat, places, gap))
     return ("ok", list(answer[1]), *answer[2:]) if answer[0] == "ok" else answer

@@ -1,8 +1,8 @@
 #!/usr/bin/env python3
 """Order 4 of document 02: the step from one partition to the following one has no division and no remainder.
 
-Looks at the source of the crate `stepping` and of the few functions outside it that stand in the same loop, and at the compiled calls that make
-tables: the loop in which the step stands may have no division instruction, no widening product, by which compilers divide by constants, and
+Looks at the source of the crate `stepping` and of the few functions outside it that stand in the same loop, and at the compiled calls that walk
+partitions: the loop in which the step stands may have no division instruction, no widening product, by which compilers divide by constants, and
 no way out of the function that could hide one. The step is known by its shifts by a variable, and its loop is the smallest that has all of them.
 """
 import os
@@ -12,13 +12,15 @@ import sys
 
 TOP = os.path.dirname(os.path.dirname(os.path.abspath(__file__)))
 STEP = os.path.join("crates", "stepping", "src", "lib.rt")
-# What else a turn of making's loop over the partitions runs.
+# What else a turn of the loops over the partitions runs, that of making and that of the greatest latency.
 BESIDE = [
     (os.path.join("crates", "maker", "src", "lib.rt"), ("walk", "add_anchor", "last_end", "store")),
+    (os.path.join("crates", "latency", "src", "lib.rt"), ("walk", "larger", "latency_of")),
     (os.path.join("crates", "chain", "src", "lib.rt"), ("task_at", "given_at")),
     (os.path.join("crates", "task", "src", "lib.rt"), ("read", "write")),
 ]
-CALLS = [("libcapi_maker.a", "mo_make_table"), ("libcapi_report.a", "mo_report")]
+# mo_sections has its loop in a function of its own, which it calls for each section.
+CALLS = [("libcapi_maker.a", "mo_make_table"), ("libcapi_sections.a", "sections::section_latency"), ("libcapi_report.a", "mo_report")]
 
 
 def text_of(path):

@@ -9,7 +9,9 @@ from dataclasses import dataclass
 from typing import Tuple
 
 from . import library
-from .lent import ROW, UNWRITTEN, Bytes, Chain, Schedule, Table, WritableBytes, WritableNumbers, answers, lend_bytes, lend_bytes_to_write, lend_to_write, number
+from .lent import (
+    ROW, UNWRITTEN, Bytes, Chain, Numbers, Schedule, Table, WritableBytes, WritableNumbers, answers, lend, lend_bytes, lend_bytes_to_write, lend_to_write, number,
+)
 from .refusals import Refused
 
 # Reading a table answers a delay below this, or this and the refusal's number.
@@ -59,6 +61,12 @@ class Exceedance:
 class Windows:
     misses: int
     first: int  # counted from 0
+
+
+@dataclass(frozen=True)
+class Sections:
+    latencies: Tuple[int, ...]  # of each section, in order
+    sum: int
 
 
 @dataclass(frozen=True)
@@ -157,6 +165,16 @@ def make_table(chain: Chain, p: int, starts: WritableNumbers, latencies: Writabl
 
 def windows(chain: Chain, b: int, k: int) -> Windows:
     return Windows(*_asked("mo_windows", "chain", 2, chain.lent(), b, k))
+
+
+def sections(chain: Chain, cuts: Numbers) -> Sections:
+    latencies, count, total = answers(ROW), answers(1), answers(1)
+    lent_cuts = lend(cuts)
+    code = library.load().mo_sections(*chain.lent(), *lent_cuts, latencies, count, total)
+    _sound(code, [*latencies, *count, *total], "chain")
+    if count[0] != lent_cuts[1] + 1 or any(latencies[count[0]:]):
+        raise Broken(f"the {count[0]} sections of {lent_cuts[1]} cuts have {list(latencies)}")
+    return Sections(tuple(latencies[:count[0]]), total[0])
 
 
 # ---- Schedules and their files

@@ -181,6 +181,14 @@ def do_windows(asked) -> int:
     return 0
 
 
+def do_sections(asked) -> int:
+    schedule = schedule_of(asked.file)
+    chain_of(schedule, asked.file, asked.chain)
+    cuts = [cut for few in asked.cuts for cut in few]
+    say(on_chain(schedule, asked.chain, lambda: words.sections(schedule, asked.chain, cuts)))
+    return 0
+
+
 # ---- The arguments
 
 def as_ticks(word: str) -> int:
@@ -197,6 +205,11 @@ def as_number(word: str) -> int:
     except measures.Unclear as why:
         unit = "; a unit stands at its number, as in 42ms" if word in measures.UNITS else ""
         raise argparse.ArgumentTypeError(f"'{word}': {why}{unit}") from None
+
+
+def as_cuts(word: str) -> List[int]:
+    """Cuts, with commas between them."""
+    return [as_number(each) for each in word.split(",")]
 
 
 # Name, what it does, its arguments, an example.
@@ -228,6 +241,9 @@ COMMANDS = (
     ("windows", do_windows, "how many of K successive jobs take longer than B ticks from read to booking", (
         FILE, ("bound", {"metavar": "B", "type": as_ticks, "help": "in ticks of 1 us, or with a unit"}), ("jobs", {"metavar": "K", "type": as_number, "help": "1 to 100"}), ONE_CHAIN,
     ), "windows examples/waters19-c1.schedule 862600 10"),
+    ("sections", do_sections, "the greatest latency of each section of a chain that is cut, as its maker has it, their sum, and that of the whole", (
+        FILE, ("cuts", {"metavar": "CUTS", "type": as_cuts, "nargs": "*", "help": "the places after which the chain is cut, as 2,4; where none is named the chain stays whole"}), ONE_CHAIN,
+    ), "sections examples/two-boards.schedule 2 --chain 2"),
 )
 
 

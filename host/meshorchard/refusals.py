@@ -56,6 +56,10 @@ MEANINGS = {
     ),
     15: Meaning("the window is outside its limits", "k is 1 to 100 jobs"),
     16: Meaning("the schedule has no chain of that number", "chains are numbered from 1, in the order of the file"),
+    17: Meaning(
+        "the cuts do not part the chain into sections",
+        "cut c parts place c from the next, so each cut is 1 to the number of places less 1, and above the cut before; a chain of one place has none",
+    ),
 }
 
 # What the place counts: in a file, in a schedule, in a chain.

@@ -30,6 +30,10 @@ def of_chain(schedule: Schedule, number: int, refused: Refused) -> str:
     if refused.number == 12:
         chain = calls.chain_of_schedule(schedule, number)
         return f"chain {number} is refused with 12: it has not warmed up. A press has a delay from tick {calls.warm_up(chain).tick:,} on, a leg an age from tick {first_leg(chain):,} on."
+    if refused.number == 17:
+        places = calls.chain_of_schedule(schedule, number).places
+        right = {1: "it cannot be cut", 2: "its one cut is 1"}.get(places, f"each cut is 1 to {places - 1}, and above the cut before")
+        return f"chain {number} is refused with 17: it has {counted(places, 'place')}, so {right}."
     if refused.number == 11:
         return f"chain {number} is refused with 11 in a report: its table has {refused.made.anchors:,} anchors, and a report has room for {SLOTS:,}."
     return f"chain {number} is refused with {refused.number}: {refused.words}."
@@ -124,6 +128,24 @@ def windows(found: calls.Windows, b: int, k: int) -> str:
         return f"after the warm-up a job of the first place can take {longer}; job {found.first:,} is the first that does"
     take = "takes" if found.misses == 1 else "take"
     return f"after the warm-up at most {found.misses} of {k:,} jobs of the first place in a row {take} {longer}; the first such stretch begins with job {found.first:,}"
+
+
+def sections(schedule: Schedule, number: int, cuts: Sequence[int]) -> List[str]:
+    """The sections of a chain that is cut, each on its own board, and the whole chain beside them."""
+    chain, tasks = calls.chain_of_schedule(schedule, number), schedule.chain_list()[number - 1]
+    found, whole = calls.sections(chain, cuts), calls.sections(chain, []).sum
+    rows = []
+    for section, (first, last) in enumerate(zip([0, *cuts], [*cuts, len(tasks)]), 1):
+        at = f"place {last}" if last == first + 1 else f"places {first + 1} to {last}"
+        rows.append((f"section {section}", at, f"{'task' if last == first + 1 else 'tasks'} {', '.join(map(str, tasks[first:last]))}", f"greatest latency {said(found.latencies[section - 1])}"))
+    after = f"cut after {'place' if len(cuts) == 1 else 'places'} {listed(cuts)}" if cuts else "in one piece"
+    gaps = f" with {counted(len(cuts), 'gap')} of {said(schedule.gap)}" if cuts and schedule.gap else ""
+    return [
+        f"chain {number}, {after}:",
+        *columns(rows),
+        f"  the sum{gaps} is {said(found.sum)}",
+        f"  the whole chain's greatest latency is {said(whole)}",
+    ]
 
 
 def pair(schedule: Schedule, found: calls.Bookings, first: int, second: int, t: int) -> List[str]:

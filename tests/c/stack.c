@@ -96,6 +96,8 @@ static void throughput(void) { mo_throughput(starts, 1024, latencies, 1024, figu
 static void exceedance(void) { mo_exceedance(starts, 1024, latencies, 1024, figures[0], figures[2], 48000000, &a, &b); }
 /* A bound that some jobs miss and no 100 in a row, so that the call looks twice. */
 static void windows(void) { mo_windows(tasks, 36, 12, gap, 48235600, 100, &a, &b); }
+/* Two sections of six places, so that partitions are stepped to. */
+static void sections(void) { mo_sections(tasks, 36, 12, gap, (const uint64_t[]){ 6 }, 1, jobs, &a, &b); }
 static void read_file(void) { mo_read_file(file, file_length, numbered, chains, places, counts); }
 static void write_file(void) { mo_write_file(numbered, 128, 32, chains, 48, places, 4, 4, gap, text, sizeof text, &a); }
 static void chain_of_schedule(void) { mo_chain_of_schedule(numbered, 128, 32, chains, 48, places, 4, 4, gap, 4, flat, &b); }
@@ -136,6 +138,8 @@ int main(void)
     held("mo_exceedance", exceedance, MO_STACK_FIGURES);
     held("mo_windows", windows, MO_STACK_WINDOWS);
     expect("some jobs miss, and no 100 in a row", a > 0 && a < 100, 1);
+    held("mo_sections", sections, MO_STACK_SECTIONS);
+    expect("two sections", a, 2);
     held("mo_read_file", read_file, MO_STACK_READ_FILE);
     expect("the gap that was read", counts[2], gap);
     held("mo_write_file", write_file, MO_STACK_WRITE_FILE);
