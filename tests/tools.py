@@ -296,6 +296,9 @@ def reasons(file, refusal, *chains):
         return [f"a delay from tick {warm[0][2]:,} on", f"an age from tick {first_leg(file.places(*chains), warm[0]):,} on"]
     if refusal == 12:
         return [f"Chain {chains[0]} has delays from tick {warm[0][2]:,} on, chain {chains[1]} from tick {warm[1][2]:,} on"]
+    if refusal == 17:
+        places = len(file.places(*chains))
+        return {1: ["1 place,", "cannot be cut"], 2: ["2 places,", "its one cut is 1."]}.get(places, [f"{places} places,", f"1 to {places - 1},"])
     return {13: ["1,000,000,000,000"], 15: ["1 to 100"]}[refusal]
 
 
@@ -368,6 +371,50 @@ def windows_cases(r, file):
             yield f"windows {file.path} {bound} {k} of chain {c}", refused_with(answer) if answer.status else windows_of(answer), expected
 
 
+def sections_of(answer):
+    """The chain, the cuts, the first and last place, the tasks and the latency of each section, the gaps and the gap of the sum, the sum and the whole."""
+    lines = answer.text().splitlines()
+    head = re.fullmatch(rf"chain {COUNT}, cut after places? ([0-9]+(?:, [0-9]+)*(?: and [0-9]+)?):", lines[0]) if lines else None
+    form = rf"  section {COUNT} +places? {COUNT}(?: to {COUNT})? +tasks? ([0-9]+(?:, [0-9]+)*) +greatest latency {TIME}"
+    rows = [re.fullmatch(form, line) for line in lines[1:-2]]
+    total = re.fullmatch(rf"  the sum(?: with {COUNT} gaps? of {TIME})? is {TIME}", lines[-2]) if len(lines) > 2 else None
+    whole = re.fullmatch(rf"  the whole chain's greatest latency is {TIME}", lines[-1]) if lines else None
+    if answer.status or answer.err or not head or not total or not whole or not all(rows):
+        return answer
+    sections = [(number(row[1]), number(row[2]), number(row[3] or row[2]), list(map(number, row[4].split(", "))), time_of(row, 5)) for row in rows]
+    gaps = (number(total[1]), time_of(total, 2)) if total[1] else None
+    return number(head[1]), list(map(number, re.split(", | and ", head[2]))), sections, gaps, time_of(total, 4), time_of(whole)
+
+
+def sections_right(file, c, cuts):
+    places, numbers = file.places(c), file.chains[c - 1]
+    answer = reference.sections(places, file.gap, cuts)
+    if answer[0] != "ok":
+        return 1, answer[1], None
+    ends = list(zip([0, *cuts], [*cuts, len(places)]))
+    sections = [(i, first + 1, last, numbers[first:last], latency) for i, ((first, last), latency) in enumerate(zip(ends, answer[1]), start=1)]
+    return c, cuts, sections, (len(cuts), file.gap) if file.gap else None, answer[2], reference.sections(places, file.gap, [])[2]
+
+
+def sections_cases(r, file):
+    """Cuts that are right, in the middle and everywhere, and such as are not, with commas or blanks between them; the chain's number before them and after."""
+    for c in range(1, len(file.chains) + 1):
+        places = file.places(c)
+        if reference.check_chain(places, file.gap)[0] == "ok" and math.lcm(*[t for t, _, _ in places]) > 1000 * max(t for t, _, _ in places):
+            continue
+        n = len(places)
+        for cuts in [[max(1, n // 2)], list(range(1, n)), inputs.some_cuts(r, n), *r.sample(inputs.faulty_cuts(r, n), 3)]:
+            if not cuts:
+                continue
+            spelt_cuts, chosen = r.choice([[",".join(map(str, cuts))], list(map(str, cuts))]), ["--chain", c]
+            answer = called("sections", file.path, *r.choice([[*spelt_cuts, *chosen], [*chosen, *spelt_cuts]]))
+            if answer.status:
+                yield f"sections {file.path} {cuts} of chain {c}, in words: {answer.err}", lacking(answer, reasons(file, refused_with(answer)[1], c)), []
+            yield f"sections {file.path} {cuts} of chain {c}", refused_with(answer) if answer.status else sections_of(answer), sections_right(file, c, cuts)
+    for c in (0, len(file.chains) + 1, 2**64 - 1):
+        yield f"sections of chain {c}", refused_with(called("sections", file.path, 1, "--chain", c)), (1, 16, None)
+
+
 def picture_faults(data):
     """What is wrong with an SVG."""
     try:
@@ -411,6 +458,7 @@ def accepted_cases(r, folder, file):
     yield from ways_cases(r, file)
     yield from pair_cases(r, file)
     yield from windows_cases(r, file)
+    yield from sections_cases(r, file)
     yield from picture_cases(folder, file, [*map(int, chains), int(any(chains) or no_common(file) or not all(chain[-1] for chain in check_right(file)[3]))])
 
 
@@ -436,10 +484,10 @@ def refused_files(r, folder):
 
 def arguments_for(word, path, out):
     """The command on a file."""
-    return [word, path, *{"delay": [10**6], "age": [10**6], "pair": [10**6, 1, 1], "windows": [5000, 10], "curve": ["-o", out], "page": ["-o", out]}.get(word, [])]
+    return [word, path, *{"delay": [10**6], "age": [10**6], "pair": [10**6, 1, 1], "windows": [5000, 10], "sections": [1], "curve": ["-o", out], "page": ["-o", out]}.get(word, [])]
 
 
-ON_FILES = ("text", "check", "report", "delay", "age", "pair", "windows", "curve", "page")
+ON_FILES = ("text", "check", "report", "delay", "age", "pair", "windows", "sections", "curve", "page")
 
 
 def refused_cases(r, folder):
@@ -479,13 +527,13 @@ def long_cases(r, folder):
 def wrong_use_cases(folder):
     """Wrong use: status 2, nothing printed, and the wrong word told."""
     out = os.path.join(folder, "out")
-    some = [([], "COMMAND"), (["chekc", LASER], "chekc"), (["check"], "FILE"), (["check", LASER, "more"], "more"), (["curve", LASER], "-o"), (["write", LASER_TEXT], "FILE")]
-    some += [(["explain"], "N")] + [(["explain", word], word) for word in ("0", "17", "18446744073709551616", "x", "-1", "1.5")] + [(["explain", "5", "x"], "x")]
+    some = [([], "COMMAND"), (["chekc", LASER], "chekc"), (["check"], "FILE"), (["check", LASER, "more"], "more"), (["curve", LASER], "-o"), (["write", LASER_TEXT], "FILE"), (["sections", LASER], "CUTS"), (["sections", LASER, "1,x"], "x"), (["sections", LASER, "1,"], "1,")]
+    some += [(["explain"], "N")] + [(["explain", word], word) for word in ("0", "18", "18446744073709551616", "x", "-1", "1.5")] + [(["explain", "5", "x"], "x")]
     for bad in ("-1", "x", "1.5", "18446744073709551616", "5ns", "1,0", "", "١", "1e3", "0.0000001s"):
         wrong = (["delay", LASER, bad], ["age", LASER, bad, "1"], ["pair", LASER, bad, "1", "1"], ["windows", LASER, bad, "5"], ["page", LASER, "-o", out, "--bound", bad])
         some += [(arguments, bad) for arguments in wrong]
     for bad in ("-1", "x", "1.5", "18446744073709551616", "1ms", ""):
-        wrong = (["delay", LASER, "5", bad], ["pair", LASER, "5", "1", bad], ["windows", LASER, "5", bad], ["curve", LASER, "-o", out, "--chain", bad], ["page", LASER, "-o", out, "--jobs", bad])
+        wrong = (["delay", LASER, "5", bad], ["pair", LASER, "5", "1", bad], ["windows", LASER, "5", bad], ["sections", LASER, bad], ["sections", LASER, "1", "--chain", bad], ["curve", LASER, "-o", out, "--chain", bad], ["page", LASER, "-o", out, "--jobs", bad])
         some += [(arguments, bad) for arguments in wrong]
     for arguments, word in some:
         answer = called(*arguments)
@@ -496,7 +544,7 @@ def like_processes(folder, files):
     """./meshorchard gives what the calls in this process give."""
     out = os.path.join(folder, "out")
     some = [arguments_for(word, path, out) for path in files for word in ON_FILES if word not in ("curve", "page")]
-    some += [["explain", "5", "18"], ["explain", "17"], ["delay", LASER, "95ms"], ["delay", LASER, "x"], []]
+    some += [["explain", "5", "18"], ["explain", "18"], ["delay", LASER, "95ms"], ["delay", LASER, "x"], []]
     for arguments, answer in zip(some, ran_all([(arguments,) for arguments in some])):
         yield f"./meshorchard {' '.join(map(str, arguments))}", answer, called(*arguments)
 
@@ -520,7 +568,7 @@ def commands(r, factor):
         yield from wrong_use_cases(folder)
         for jobs in (0, 101):
             yield f"page with windows of {jobs} jobs, which are refused with 15", called("page", LASER, "-o", os.path.join(folder, "out"), "--jobs", jobs).status, 1
-        for refusal in range(1, 17):
+        for refusal in range(1, 18):
             answer = called("explain", refusal)
             yield f"explain {refusal}", (answer.status, answer.text().startswith(f"{refusal}: "), answer.text().count("\n") >= 2, answer.err), (0, True, True, "")
         yield from like_processes(folder, [LASER, os.path.join(folder, "long.schedule"), os.path.join(folder, "refused-5.schedule"), os.path.join(folder, "missing")])
@@ -991,7 +1039,7 @@ ANSWERS = {
     "check": ((CHAIN_A,), 12), "warm_up": ((CHAIN_A,), ((0, 1), 0, 12)), "delay": ((CHAIN_A, 0), 18), "age": ((CHAIN_A, 12), 12),
     "make_table": ((CHAIN_A, 1, array("Q", bytes(24)), array("Q", bytes(24))), (2, 0, 12, 3)),
     "windows": ((CHAIN_A, 13, 3), reference.windows([(4, 4, 0), (6, 6, 0)], 0, 13, 3)[1:]), "read_file": ((FILE_A,), ([1, 4, 4, 0, 2, 6, 6, 0, *[0] * 120], 2, [1, 2, *[0] * 10, 2, *[0] * 35], [2, 1, 0, 0], 2, 0, (None, None, None))),
-    "write_file": ((SCHEDULE_A, bytearray(698)), len(FILE_A)), "chain_of_schedule": ((SCHEDULE_A, 1), ([4, 4, 0, 6, 6, 0], 2, 0)),
+    "sections": ((CHAIN_A, [1]), ((8, 12), 20)), "write_file": ((SCHEDULE_A, bytearray(698)), len(FILE_A)), "chain_of_schedule": ((SCHEDULE_A, 1), ([4, 4, 0, 6, 6, 0], 2, 0)),
     "bookings": ((SCHEDULE_A, 1, 2, 0), reference.bookings([(4, 4, 0), (6, 6, 0)], 0, [(6, 6, 0)], 0, 0)[1:]),
     "report": ((FILE_A, bytearray(92000)), len(reference.report(FILE_A))),
 }
@@ -1002,7 +1050,7 @@ REFUSALS = {
     10: (calls.make_table, (CHAIN_A, 1, array("Q", bytes(8)), array("Q", bytes(16))), 0),
     11: (calls.make_table, (CHAIN_A, 1, array("Q", bytes(8)), array("Q", bytes(8))), 0), 12: (calls.age, (CHAIN_A, 11), 0),
     13: (calls.delay, (CHAIN_A, 10**12 + 1), 0), 14: (calls.greatest, (dataclasses.replace(TABLE_A, hyperperiod=0),), 0), 15: (calls.windows, (CHAIN_A, 5, 101), 0),
-    16: (calls.chain_of_schedule, (SCHEDULE_A, 3), 0),
+    16: (calls.chain_of_schedule, (SCHEDULE_A, 3), 0), 17: (calls.sections, (CHAIN_A, [1, 1]), 0),
     5: (calls.check, (Chain.of([(4, 4, 0), (0, 6, 0)]),), 2), 6: (calls.write_file, (Schedule.of([(1, 4, 4, 0)], [[1, 1, 9]]), bytearray(698)), 3),
     1: (calls.read_file, (FILE_A[:-1],), len(FILE_A) - 4), 2: (calls.read_file, (b"\3\0\1\0",), 0), 3: (calls.read_file, (b"\4\0\5\0",), 0),
     4: (calls.read_file, (FILE_A + b"x",), len(FILE_A)),
@@ -1018,7 +1066,7 @@ def declared_cases():
     """Every call of the header is a typed function with the answer that it should have."""
     with open(os.path.join(TOP, "include", "meshorchard.h"), encoding="utf-8") as header:
         names = re.findall(r"^\w+ mo_(\w+)\(", re.sub(r"/\*.*?\*/", "", header.read(), flags=re.DOTALL), re.MULTILINE)
-    assert len(names) == len(set(names)) == len(ANSWERS) == 17, names
+    assert len(names) == len(set(names)) == len(ANSWERS) == 18, names
     for name in names:
         function = getattr(calls, name, None)
         typed = callable(function) and all(each.annotation is not each.empty for each in inspect.signature(function).parameters.values())
@@ -1039,7 +1087,7 @@ def refusal_cases():
             words = refused.words
             found = refused.number, refused.place, isinstance(words, str) and len(words) > 20, words in str(refused), str(refusal) in str(refused)
         yield f"refusal {refusal} of calls.{call.__name__}", found, (refusal, place, True, True, True)
-    yield "a refusal for each number of the header", sorted(REFUSALS), list(range(1, 17))
+    yield "a refusal for each number of the header", sorted(REFUSALS), list(range(1, 18))
 
 
 def beyond():
@@ -1047,6 +1095,7 @@ def beyond():
     for value in (-1, 2**64, 2**64 + 1, -2**63, 2**65 + 12):
         asked = [
             (calls.delay, CHAIN_A, value), (calls.age, CHAIN_A, value), (calls.windows, CHAIN_A, value, 3), (calls.windows, CHAIN_A, 5, value),
+            (calls.sections, CHAIN_A, [value]), (calls.sections, CHAIN_A, [1, value]),
             (calls.read_table, TABLE_A, value), (calls.exceedance, TABLE_A, value),
             (calls.make_table, CHAIN_A, value, array("Q", bytes(8)), array("Q", bytes(8))), (calls.chain_of_schedule, SCHEDULE_A, value),
             (calls.bookings, SCHEDULE_A, value, 1, 5), (calls.bookings, SCHEDULE_A, 1, value, 5),
@@ -1098,6 +1147,8 @@ BREACHES = [
     ("mo_read_file", calls.read_file, (FILE_A,), leaves(0, [1, 4, 4, 0], [1], [1, 1], [1, 1, 0])), ("mo_read_file", calls.read_file, (FILE_A,), leaves(0, [], [], [], [33, 1, 0])),
     ("mo_read_file", calls.read_file, (FILE_A,), leaves(1, [], [], [], [0, 0, 9])), ("mo_write_file", calls.write_file, (SCHEDULE_A, bytearray(9)), leaves(8, [4])),
     ("mo_chain_of_schedule", calls.chain_of_schedule, (SCHEDULE_A, 1), leaves(0, [4, 4, 0, 5], [1])), ("mo_chain_of_schedule", calls.chain_of_schedule, (SCHEDULE_A, 1), leaves(16, [], [1])),
+    ("mo_sections", calls.sections, (CHAIN_A, [1]), leaves(0, [8, 12, 1], [2], [20])), ("mo_sections", calls.sections, (CHAIN_A, [1]), leaves(0, [8], [1], [8])),
+    ("mo_sections", calls.sections, (CHAIN_A, [1]), leaves(0, [8, 12], [2], None)), ("mo_sections", calls.sections, (CHAIN_A, [2]), leaves(17, [], [1], [])),
     ("mo_bookings", calls.bookings, (SCHEDULE_A, 1, 2, 0), leaves(16, [0, 0, 0, 1])), ("mo_report", calls.report, (FILE_A, bytearray(9)), leaves(0, None)),
 ]
 

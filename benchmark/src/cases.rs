@@ -2,6 +2,7 @@
 use crate::programs::{Chain, Program, Schedule, Table, REFUSED};
 use plain::bookings::check_pair;
 use plain::chain::{check, forward};
+use plain::latency::longest_place;
 use plain::maker::{make_table, Made};
 use plain::schedule::NumberedTask;
 use plain::task::Task;
@@ -25,6 +26,7 @@ pub enum Call {
     Delay { chain: Chain, ticks: Vec<u64> },
     Age { chain: Chain, ticks: Vec<u64> },
     Windows { chain: Chain, b: u64, k: u64 },
+    Sections { chain: Chain, cuts: Vec<u64> },
     Bookings { schedule: Schedule, ticks: Vec<u64> },
 }
 
@@ -66,12 +68,6 @@ fn hyperperiod(chain: &Chain) -> u64 {
     check(&chain.tasks, chain.gap).expect("a chain that is accepted")
 }
 
-/// The place with the longest period, the lowest among equals, from 1.
-fn longest(tasks: &[Task]) -> usize {
-    let top = tasks.iter().map(|task| task.period).max().unwrap();
-    tasks.iter().position(|task| task.period == top).unwrap() + 1
-}
-
 /// How many ticks a way through the chain takes at most.
 fn ticks_of_way(chain: &Chain) -> u64 {
     chain.tasks.iter().map(|task| task.period + task.duration + chain.gap).sum()
@@ -92,7 +88,7 @@ fn named(kind: &str, chain: &Chain) -> String {
 
 fn making(kind: &str, periods: &[u64], gap: u64) -> Case {
     let chain = chain_of(periods, gap);
-    let (p, h, n) = (longest(&chain.tasks), hyperperiod(&chain), periods.len() as u64);
+    let (p, h, n) = (longest_place(&chain.tasks) + 1, hyperperiod(&chain), periods.len() as u64);
     let walked = h / periods[p - 1];
     Case {
         group: "making",
@@ -159,6 +155,30 @@ fn late() -> Chain {
     chain_with(vec![Task { period: 401, duration: 401, phase: 0 }, Task { period: 503, duration: 503, phase: 400 }], 0)
 }
 
+/// Durations and phases are those of the whole chain.
+fn sections(kind: &str, periods: &[u64], gap: u64, cuts: &[u64]) -> Case {
+    let chain = chain_of(periods, gap);
+    let ends = cuts.iter().map(|&cut| cut as usize).chain([periods.len()]);
+    let (mut from, mut walked, mut links, mut steps) = (0, 0, 0, 0);
+    for to in ends {
+        let (section, n) = (&chain.tasks[from..to], (to - from) as u64);
+        let h = check(section, gap).expect("a section that is accepted");
+        let partitions = h / section[longest_place(section)].period;
+        walked += partitions;
+        links += partitions * n;
+        steps += h * n;
+        from = to;
+    }
+    let parts = if cuts.is_empty() { "whole".to_string() } else { format!("{} sections", cuts.len() + 1) };
+    Case {
+        group: "sections",
+        name: format!("{}, {parts}, walked {walked}", named(kind, &chain)),
+        call: Call::Sections { chain, cuts: cuts.to_vec() },
+        enumerating: steps,
+        work: links,
+    }
+}
+
 /// A schedule of two chains without a common task.
 fn schedule_of(first: &[Task], second: &[Task], gap: u64) -> Schedule {
     let numbered: Vec<NumberedTask> = (1..).zip(first.iter().chain(second)).map(|(number, &task)| NumberedTask { number, task }).collect();
@@ -175,7 +195,7 @@ fn schedule_of(first: &[Task], second: &[Task], gap: u64) -> Schedule {
 
 /// The anchors of a chain in h ticks, a multiple of its hyperperiod.
 fn anchors_in(tasks: &[Task], gap: u64, h: u64) -> u64 {
-    match make_table(tasks, gap, longest(tasks), &mut [], &mut []) {
+    match make_table(tasks, gap, longest_place(tasks) + 1, &mut [], &mut []) {
         Made::Whole(figures) | Made::Short(figures) => figures.anchors as u64 * (h / figures.hyperperiod),
         Made::Refused(_) => panic!("a chain that is accepted"),
     }
@@ -238,6 +258,18 @@ pub fn all() -> Vec<Case> {
     cases.extend([0, 4, 6, 3, 7, 9].iter().map(|&i| windows("co-prime", chain_of(coprime[i], 0), 10)));
     cases.push(windows("co-prime", chain_of(coprime[3], 0), 100));
     cases.push(windows("co-prime", chain_of(coprime[4], 37), 10));
+    for cuts in [vec![], vec![6], (1..12).collect()] {
+        cases.push(sections("harmonic", &doubling(250, 12), 0, &cuts));
+    }
+    for cuts in [vec![], vec![2]] {
+        cases.push(sections("published", &published, 0, &cuts));
+        cases.push(sections("co-prime", coprime[4], 0, &cuts));
+    }
+    cases.push(sections("co-prime", coprime[1], 0, &[]));
+    for cuts in [vec![], vec![6], vec![4, 8]] {
+        cases.push(sections("co-prime", coprime[9], 0, &cuts));
+    }
+    cases.push(sections("published", &published, GAP_LIMIT, &[2]));
     cases.push(bookings("harmonic", [&[250], &[500]], 0));
     cases.push(bookings("harmonic", [&doubling(250, 4), &doubling(4000, 4)], 0));
     cases.push(bookings("harmonic", [&doubling(250, 12), &doubling(250, 12)], 0));
@@ -293,6 +325,17 @@ fn repeat_windows<P: Program>(chain: &Chain, b: u64, k: u64, repeats: usize) -> 
 }
 
 #[inline(never)]
+fn repeat_sections<P: Program>(chain: &Chain, cuts: &[u64], repeats: usize) -> u64 {
+    let mut digest = 0;
+    for _ in 0..repeats {
+        let mut out = [0; 14];
+        let code = P::sections(black_box(chain), black_box(cuts), &mut out);
+        digest = out.iter().fold(mix(digest, code), |digest, &figure| mix(digest, figure));
+    }
+    digest
+}
+
+#[inline(never)]
 fn repeat_bookings<P: Program>(schedule: &Schedule, ticks: &[u64], repeats: usize) -> u64 {
     let mut digest = 0;
     for i in 0..repeats {
@@ -328,6 +371,7 @@ pub fn repeat<P: Program>(case: &Case, lists: &mut Lists, repeats: usize) -> u64
             }
         }
         Call::Windows { chain, b, k } => digest = repeat_windows::<P>(chain, *b, *k, repeats),
+        Call::Sections { chain, cuts } => digest = repeat_sections::<P>(chain, cuts, repeats),
         Call::Bookings { schedule, ticks } => digest = repeat_bookings::<P>(schedule, ticks, repeats),
     }
     digest
@@ -365,6 +409,11 @@ pub fn answers<P: Program>(case: &Case) -> Vec<u64> {
             all.push(P::windows(chain, *b, *k, &mut out));
             all.extend(out);
         }
+        Call::Sections { chain, cuts } => {
+            let mut out = [RUBBISH; 14];
+            all.push(P::sections(chain, cuts, &mut out));
+            all.extend(out);
+        }
         Call::Bookings { schedule, ticks } => {
             for &t in ticks {
                 let mut out = [RUBBISH; 4];
@@ -386,7 +435,7 @@ pub fn digest(answers: &[u64]) -> u64 {
 /// Whether an answer is a refusal. Every case is meant to be accepted.
 pub fn refuses(case: &Case, answers: &[u64]) -> bool {
     match case.call {
-        Call::Make { .. } | Call::Windows { .. } => answers[0] != 0,
+        Call::Make { .. } | Call::Windows { .. } | Call::Sections { .. } => answers[0] != 0,
         Call::Read { .. } => answers.iter().any(|&answer| REFUSED <= answer),
         Call::Delay { .. } | Call::Age { .. } => answers.chunks(2).any(|pair| pair[0] != 0),
         Call::Bookings { .. } => answers.chunks(5).any(|five| five[0] != 0),

@@ -3,6 +3,7 @@ use plain::bookings::{check_pair, Bookings};
 use plain::chain::{check, forward};
 use plain::maker::{Figures, Made};
 use plain::schedule::Schedule;
+use plain::sections::{section_latencies_by, Sections};
 use plain::table::is_well_formed;
 use plain::task::Task;
 use plain::{Refusal, UPPER_TICK};
@@ -168,6 +169,15 @@ pub fn most_misses(tasks: &[Task], gap: u64, bound: u64, k: u64) -> Result<(u64,
         }
     }
     Ok(best)
+}
+
+/// The delay at every tick of a section's hyperperiod, walked as the plain program walks.
+pub fn section_latencies(tasks: &[Task], gap: u64, cuts: &[u64]) -> Result<Sections, Refusal> {
+    let greatest = |tasks: &[Task], gap: u64, h: u64| {
+        let x0 = warm_tick(tasks, gap);
+        (x0..x0 + h).map(|t| walked_from(tasks, gap, t) - t).max().unwrap_or(0)
+    };
+    section_latencies_by(greatest, tasks, gap, cuts)
 }
 
 /// The difference at every tick of the common hyperperiod, walked as the plain program walks.

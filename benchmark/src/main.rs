@@ -237,7 +237,7 @@ fn main() {
         if making {
             programs.push(&DIVIDING);
         }
-        if formed && case.group != "reading" && case.group != "bookings" {
+        if formed && !["reading", "sections", "bookings"].contains(&case.group) {
             programs.extend([&BY_VALUE, &FLAT]);
         }
         if case.enumerating <= limits.enumerating {

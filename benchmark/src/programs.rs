@@ -3,6 +3,7 @@ use crate::enumerate;
 use forms::{by_value, flat};
 use plain::bookings::Bookings;
 use plain::maker::Made;
+use plain::sections::Sections;
 use plain::task::Task;
 use plain::Refusal;
 
@@ -35,6 +36,8 @@ pub trait Program {
     fn delay(chain: &Chain, t: u64, out: &mut u64) -> u64;
     fn age(chain: &Chain, z: u64, out: &mut u64) -> u64;
     fn windows(chain: &Chain, b: u64, k: u64, out: &mut [u64; 2]) -> u64;
+    /// The latencies, then the number of sections and the sum.
+    fn sections(chain: &Chain, cuts: &[u64], out: &mut [u64; 14]) -> u64;
     /// Of the schedule's chains 1 and 2.
     fn bookings(schedule: &Schedule, t: u64, out: &mut [u64; 4]) -> u64;
 }
@@ -69,6 +72,20 @@ fn give_pair(answer: Result<(u64, u64), Refusal>, out: &mut [u64; 2]) -> u64 {
     give(answer.map(|(a, b)| [a, b]), out)
 }
 
+fn give_sections(answer: Result<Sections, Refusal>, out: &mut [u64; 14]) -> u64 {
+    match answer {
+        Ok(found) => {
+            out[..12].copy_from_slice(&found.latencies);
+            (out[12], out[13]) = (found.count as u64, found.sum);
+            0
+        }
+        Err(r) => {
+            *out = [0; 14];
+            r.code()
+        }
+    }
+}
+
 fn give_bookings(answer: Result<Bookings, Refusal>, out: &mut [u64; 4]) -> u64 {
     give(answer.map(|b| [b.later, b.earlier, b.difference, b.greatest]), out)
 }
@@ -85,6 +102,9 @@ mod c {
             tasks: *const u64, length: usize, places: usize, gap: u64, p: usize, starts: *mut u64, n: usize, latencies: *mut u64, m: usize, figures: *mut u64,
         ) -> u64;
         pub fn mo_windows(tasks: *const u64, length: usize, places: usize, gap: u64, b: u64, k: u64, misses: *mut u64, first: *mut u64) -> u64;
+        pub fn mo_sections(
+            tasks: *const u64, length: usize, places: usize, gap: u64, cuts: *const u64, cuts_length: usize, latencies: *mut u64, count: *mut u64, sum: *mut u64,
+        ) -> u64;
         pub fn mo_bookings(
             tasks: *const u64, tasks_length: usize, count: usize, chains: *const u64, chains_length: usize, places: *const u64, places_length: usize,
             chain_count: usize, gap: u64, first: usize, second: usize, t: u64, figures: *mut u64,
@@ -117,6 +137,12 @@ impl Program for Proved {
         unsafe { c::mo_windows(chain.flat.as_ptr(), chain.flat.len(), chain.tasks.len(), chain.gap, b, k, misses, first) }
     }
 
+    fn sections(chain: &Chain, cuts: &[u64], out: &mut [u64; 14]) -> u64 {
+        let (latencies, others) = out.split_at_mut(12);
+        let (count, sum) = others.split_at_mut(1);
+        unsafe { c::mo_sections(chain.flat.as_ptr(), chain.flat.len(), chain.tasks.len(), chain.gap, cuts.as_ptr(), cuts.len(), latencies.as_mut_ptr(), count.as_mut_ptr(), sum.as_mut_ptr()) }
+    }
+
     fn bookings(schedule: &Schedule, t: u64, out: &mut [u64; 4]) -> u64 {
         let (tasks, chains, places) = (&schedule.tasks, &schedule.chains, &schedule.places);
         let (count, gap) = (tasks.len() / 4, schedule.plain.gap);
@@ -147,6 +173,10 @@ impl Program for Plain {
         give_pair(plain::windows::most_misses(&chain.tasks, chain.gap, b, k), out)
     }
 
+    fn sections(chain: &Chain, cuts: &[u64], out: &mut [u64; 14]) -> u64 {
+        give_sections(plain::sections::section_latencies(&chain.tasks, chain.gap, cuts), out)
+    }
+
     fn bookings(schedule: &Schedule, t: u64, out: &mut [u64; 4]) -> u64 {
         give_bookings(plain::bookings::pair_of(&schedule.plain, 1, 2, t), out)
     }
@@ -173,6 +203,10 @@ impl Program for Enumerating {
 
     fn windows(chain: &Chain, b: u64, k: u64, out: &mut [u64; 2]) -> u64 {
         give_pair(enumerate::most_misses(&chain.tasks, chain.gap, b, k), out)
+    }
+
+    fn sections(chain: &Chain, cuts: &[u64], out: &mut [u64; 14]) -> u64 {
+        give_sections(enumerate::section_latencies(&chain.tasks, chain.gap, cuts), out)
     }
 
     fn bookings(schedule: &Schedule, t: u64, out: &mut [u64; 4]) -> u64 {
@@ -204,12 +238,16 @@ impl Program for Dividing {
         Plain::windows(chain, b, k, out)
     }
 
+    fn sections(chain: &Chain, cuts: &[u64], out: &mut [u64; 14]) -> u64 {
+        Plain::sections(chain, cuts, out)
+    }
+
     fn bookings(schedule: &Schedule, t: u64, out: &mut [u64; 4]) -> u64 {
         Plain::bookings(schedule, t, out)
     }
 }
 
-/// Plain Rust with the chain copied at each call; reading and bookings are the plain program's.
+/// Plain Rust with the chain copied at each call; reading, sections and bookings are the plain program's.
 pub struct ByValue;
 
 impl Program for ByValue {
@@ -232,6 +270,10 @@ impl Program for ByValue {
 
     fn windows(chain: &Chain, b: u64, k: u64, out: &mut [u64; 2]) -> u64 {
         give_pair(by_value::most_misses(by_value::chain_from(&chain.flat, chain.tasks.len(), chain.gap), b, k), out)
+    }
+
+    fn sections(chain: &Chain, cuts: &[u64], out: &mut [u64; 14]) -> u64 {
+        Plain::sections(chain, cuts, out)
     }
 
     fn bookings(schedule: &Schedule, t: u64, out: &mut [u64; 4]) -> u64 {
@@ -261,6 +303,10 @@ impl Program for Flat {
 
     fn windows(chain: &Chain, b: u64, k: u64, out: &mut [u64; 2]) -> u64 {
         give_pair(flat::most_misses(&chain.flat, chain.tasks.len(), chain.gap, b, k), out)
+    }
+
+    fn sections(chain: &Chain, cuts: &[u64], out: &mut [u64; 14]) -> u64 {
+        Plain::sections(chain, cuts, out)
     }
 
     fn bookings(schedule: &Schedule, t: u64, out: &mut [u64; 4]) -> u64 {

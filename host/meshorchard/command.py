@@ -242,7 +242,7 @@ COMMANDS = (
         FILE, ("bound", {"metavar": "B", "type": as_ticks, "help": "in ticks of 1 us, or with a unit"}), ("jobs", {"metavar": "K", "type": as_number, "help": "1 to 100"}), ONE_CHAIN,
     ), "windows examples/waters19-c1.schedule 862600 10"),
     ("sections", do_sections, "the greatest latency of each section of a chain that is cut, as its maker has it, their sum, and that of the whole", (
-        FILE, ("cuts", {"metavar": "CUTS", "type": as_cuts, "nargs": "*", "help": "the places after which the chain is cut, as 2,4; where none is named the chain stays whole"}), ONE_CHAIN,
+        FILE, ("cuts", {"metavar": "CUTS", "type": as_cuts, "nargs": "+", "help": "the places after which the chain is cut, as 2,4"}), ONE_CHAIN,
     ), "sections examples/two-boards.schedule 2 --chain 2"),
 )
 

@@ -138,10 +138,9 @@ def sections(schedule: Schedule, number: int, cuts: Sequence[int]) -> List[str]:
     for section, (first, last) in enumerate(zip([0, *cuts], [*cuts, len(tasks)]), 1):
         at = f"place {last}" if last == first + 1 else f"places {first + 1} to {last}"
         rows.append((f"section {section}", at, f"{'task' if last == first + 1 else 'tasks'} {', '.join(map(str, tasks[first:last]))}", f"greatest latency {said(found.latencies[section - 1])}"))
-    after = f"cut after {'place' if len(cuts) == 1 else 'places'} {listed(cuts)}" if cuts else "in one piece"
-    gaps = f" with {counted(len(cuts), 'gap')} of {said(schedule.gap)}" if cuts and schedule.gap else ""
+    gaps = f" with {counted(len(cuts), 'gap')} of {said(schedule.gap)}" if schedule.gap else ""
     return [
-        f"chain {number}, {after}:",
+        f"chain {number}, cut after {'place' if len(cuts) == 1 else 'places'} {listed(cuts)}:",
         *columns(rows),
         f"  the sum{gaps} is {said(found.sum)}",
         f"  the whole chain's greatest latency is {said(whole)}",

@@ -45,7 +45,7 @@ static void check_cut(const char *what, uint64_t code, size_t wanted_count, cons
 
 static void check_cuts(void)
 {
-    static const uint64_t one[1] = { 1 }, two[1] = { 2 }, all[3] = { 1, 2, 3 }, ends[2] = { 1, 3 };
+    static const uint64_t one[1] = { 1 }, two[1] = { 2 }, all[3] = { 1, 2, 3 }, ends[2] = { 1, 3 }, two_and_more[3] = { 2, 0, 9 };
     static const uint64_t whole_a[1] = { 18 }, cut_a[2] = { 8, 12 }, gapped_a[1] = { 26 };
     static const uint64_t whole_d[1] = { 16 }, cut_d[2] = { 12, 11 };
     static const uint64_t whole_four[1] = { 31 }, halves[2] = { 16, 18 }, quarters[4] = { 7, 10, 14, 5 }, middle[3] = { 7, 23, 5 };
@@ -61,25 +61,8 @@ static void check_cuts(void)
     check_cut("four places in halves", sections(four, 12, 4, 0, two, 1), 2, halves, 34);
     check_cut("four places in quarters", sections(four, 12, 4, 0, all, 3), 4, quarters, 36);
     check_cut("four places without their ends", sections(four, 12, 4, 0, ends, 2), 3, middle, 35);
+    check_cut("the first of three cuts alone", sections(four, 12, 4, 0, two_and_more, 1), 2, halves, 34);
     check_cut("four places in halves, gap 1,000", sections(four, 12, 4, 1000, two, 1), 2, far_halves, 3034);
-}
-
-/* Twelve places of the longest tasks at the greatest gap, each phase 999 ticks after the one before: the longest latency that a chain has, and
- * in sections exactly 1 more for each of the eleven cuts. */
-static void check_twelve(void)
-{
-    static const uint64_t cuts[11] = { 1, 2, 3, 4, 5, 6, 7, 8, 9, 10, 11 };
-    uint64_t tasks[36], wanted[12];
-
-    for (size_t i = 0; i < 12; i++) {
-        tasks[3 * i] = 1000000;
-        tasks[3 * i + 1] = 4000000;
-        tasks[3 * i + 2] = 999 * i;
-        wanted[i] = 5000000;
-    }
-    check_cut("twelve places, all cut", sections(tasks, 36, 12, 1000, cuts, 11), 12, wanted, 60011000);
-    wanted[0] = 60010989;
-    check_cut("twelve places in one piece", sections(tasks, 36, 12, 1000, cuts, 0), 1, wanted, 60010989);
 }
 
 static void check_refused(const char *what, uint64_t code, uint64_t wanted)
@@ -90,6 +73,25 @@ static void check_refused(const char *what, uint64_t code, uint64_t wanted)
         any |= latencies[i];
     expect(what, code, wanted);
     expect("  all else 0", any, 0);
+}
+
+/* Twelve places of the longest tasks at the greatest gap, each phase 999 ticks after the one before: the longest latency that a chain has, and
+ * in sections exactly 1 more for each of the eleven cuts. */
+static void check_twelve(void)
+{
+    static const uint64_t cuts[12] = { 1, 2, 3, 4, 5, 6, 7, 8, 9, 10, 11, 12 };
+    uint64_t tasks[36], wanted[12];
+
+    for (size_t i = 0; i < 12; i++) {
+        tasks[3 * i] = 1000000;
+        tasks[3 * i + 1] = 4000000;
+        tasks[3 * i + 2] = 999 * i;
+        wanted[i] = 5000000;
+    }
+    check_cut("twelve places, all cut", sections(tasks, 36, 12, 1000, cuts, 11), 12, wanted, 60011000);
+    check_refused("twelve places, cut after the last too", sections(tasks, 36, 12, 1000, cuts, 12), MO_CUTS_NOT_RISING);
+    wanted[0] = 60010989;
+    check_cut("twelve places in one piece", sections(tasks, 36, 12, 1000, cuts, 0), 1, wanted, 60010989);
 }
 
 static void check_refusals(void)

@@ -6,6 +6,13 @@ pub struct Partition {
     pub end: u64,
 }
 
+impl Partition {
+    #[inline(always)]
+    pub fn latency(&self) -> u64 {
+        self.end - self.start
+    }
+}
+
 /// The anchors of the partitions so far. Those that fit are in the lists.
 pub struct Anchors<'a> {
     starts: &'a mut [u64],
@@ -28,7 +35,7 @@ impl<'a> Anchors<'a> {
         if here.end != self.last_end {
             if let (Some(start), Some(latency)) = (self.starts.get_mut(self.count), self.latencies.get_mut(self.count)) {
                 *start = here.start;
-                *latency = here.end - here.start;
+                *latency = here.latency();
             }
             self.count += 1;
         }

@@ -35,6 +35,11 @@ pub fn check(tasks: &[Task], gap: u64) -> Result<u64, Refusal> {
     Ok(h)
 }
 
+/// The hyperperiod of a part of an accepted chain.
+pub fn hyperperiod(tasks: &[Task]) -> u64 {
+    tasks.iter().fold(1, |h, task| lcm(h, task.period))
+}
+
 /// From a job at the first of these places forward to the last.
 pub fn forward(tasks: &[Task], gap: u64, job: u64) -> u64 {
     tasks.windows(2).fold(job, |job, link| link[0].forward_to(gap, &link[1], job))

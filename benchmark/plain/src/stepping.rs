@@ -65,4 +65,14 @@ impl State<'_> {
         anchors.add(here, past);
         anchors.count()
     }
+
+    /// The greatest latency of n partitions, of which the first is here.
+    pub fn greatest(mut self, n: u64) -> u64 {
+        let mut greatest = self.partition().latency();
+        for _ in 1..n {
+            self.step();
+            greatest = greatest.max(self.partition().latency());
+        }
+        greatest
+    }
 }

@@ -1,6 +1,6 @@
 -- Demand 3 of the calls for C, with any gap (order 5), from their own contracts: from code 0 of mo_make_table, mo_read_table gives at every tick what mo_delay gives (`table-is-walk-for-c`),
 -- two cuts leave the same entries below g (`cuts-agree-for-c`), and mo_greatest's latency is the greatest delay of mo_delay and 1 + the greatest age of mo_age
--- (`greatest-for-c`), and at most the sum of mo_sections, however the chain is cut (`sections-for-c`). When mo_make_table answers 0 is `completes-for-c`. And mo_mean's two numbers give the mean of the walk's delay at every time of a hyperperiod (`mean-for-c`).
+-- (`greatest-for-c`), and at most the sum of mo_sections, however the chain is cut (`sections-for-c`), which it is with no cut (`no-cut-for-c`). When mo_make_table answers 0 is `completes-for-c`. And mo_mean's two numbers give the mean of the walk's delay at every time of a hyperperiod (`mean-for-c`).
 use Prim.Native.Nat.{ℕ, _+_, _*_, _/_, _≤_, _<_}
 use native.Mathlib.Omega.{arith}
 use mathlib.Core.Path.{_≡_, sym, ap, _∙_}
@@ -39,7 +39,7 @@ use Rattle.capi_maker.specs.Calls.{madeCode, madeNumbers, GivesTable}
 use Rattle.latency.specs.Latency.{greatestLatency}
 use Rattle.latency.specs.GreatestDelay.{table-greatest}
 use Rattle.capi_sections.specs.Calls.{GivesSections}
-use Rattle.capi_sections.specs.EveryCut.{whole-for-c}
+use Rattle.capi_sections.specs.EveryCut.{whole-for-c, whole-answer-for-c}
 use Rattle.capi_agreement.specs.Codes.{check-zero, span-zero, made-zero}
 
 -- figures of mo_make_table: g, the warm-up tick and h.
@@ -161,17 +161,24 @@ module _ (tasks : List ℕ) (places gap : ℕ) where
           },
         )
 
-    -- Order 6: mo_greatest's latency is at most the sum that mo_sections gives of the same chain, and each cut adds at least 1.
-    pub sections-for-c : (code′ latency : ℕ) → GivesGreatest s′ v′ (count figures) (hyper figures) code′ latency
-        → (cuts latencies : List ℕ) (code″ parts sum : ℕ) → GivesSections c cuts code″ latencies parts sum → code″ ≡ 0 → (latency ≤ sum) × (latency + length cuts ≤ sum)
-    sections-for-c code′ latency g cuts latencies code″ parts sum gives zero =
-        let n : (code′ ∷ latency ∷ []) ≡ 0 ∷ greatestLatency (tasksOf c) ∷ []
-        = g ∙ ap (λ (x : ℕ). greatestNumbers (greatestOf s′ v′ x (hyper figures))) (done .anchors)
-        ∙ ap (λ (x : ℕ). greatestNumbers (greatestOf s′ v′ (done .given .anchors) x)) (done .hyperperiod)
-        ∙ ap greatestNumbers (table-greatest c twelve p s v s′ v′ (done .given) (done .makes)) in
-        let e : latency ≡ greatestLatency (tasksOf c) = ap (λ (l : List ℕ). getD l 1 0) n in
-        let w = whole-for-c tasks places gap cuts latencies code″ parts sum gives zero in
-        (omega (arith, w .0), omega (arith, w .1))
+    module _ (code′ latency : ℕ) (g : GivesGreatest s′ v′ (count figures) (hyper figures) code′ latency) where
+      of-chain : latency ≡ greatestLatency (tasksOf c)
+      of-chain =
+          let n : (code′ ∷ latency ∷ []) ≡ 0 ∷ greatestLatency (tasksOf c) ∷ []
+          = g ∙ ap (λ (x : ℕ). greatestNumbers (greatestOf s′ v′ x (hyper figures))) (done .anchors)
+          ∙ ap (λ (x : ℕ). greatestNumbers (greatestOf s′ v′ (done .given .anchors) x)) (done .hyperperiod)
+          ∙ ap greatestNumbers (table-greatest c twelve p s v s′ v′ (done .given) (done .makes)) in
+          ap (λ (l : List ℕ). getD l 1 0) n
+
+      -- Order 6: mo_greatest's latency is at most the sum that mo_sections gives of the same chain, and each cut adds at least 1.
+      pub sections-for-c : (cuts latencies : List ℕ) (code″ parts sum : ℕ) → GivesSections c cuts code″ latencies parts sum → code″ ≡ 0 → (latency ≤ sum) × (latency + length cuts ≤ sum)
+      sections-for-c cuts latencies code″ parts sum gives zero =
+          let w = whole-for-c tasks places gap cuts latencies code″ parts sum gives zero in
+          (omega (arith, of-chain, w .0), omega (arith, of-chain, w .1))
+
+      -- With no cut it is the sum.
+      pub no-cut-for-c : (latencies : List ℕ) (code″ parts sum : ℕ) → GivesSections c [] code″ latencies parts sum → code″ ≡ 0 → latency ≡ sum
+      no-cut-for-c latencies code″ parts sum gives zero = of-chain ∙ sym (whole-answer-for-c tasks places gap latencies code″ parts sum gives zero)
 
     pub mean-for-c : (code′ area ticks : ℕ) → GivesMean s′ v′ (count figures) (hyper figures) code′ area ticks → (code′ ≡ 0) × MeanForC c (tick figures) (hyper figures) area ticks
     mean-for-c code′ area ticks g =

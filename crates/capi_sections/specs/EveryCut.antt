@@ -1,17 +1,23 @@
--- mo_sections: order 6's two laws, for every chain and every list of cuts that have code 0. That mo_greatest gives the same greatest latency of the chain's table is `sections-for-c` in capi_agreement/specs/TablesAndWalks.
-use Prim.Native.Nat.{ℕ, _+_, _≤_}
+-- mo_sections: order 6's two laws, for every chain and every list of cuts that have code 0, and that the maker of one board gets his entry of the latencies by himself. That mo_greatest gives the same greatest latency of the chain's table is `sections-for-c` in capi_agreement/specs/TablesAndWalks.
+use Prim.Native.Nat.{ℕ, _+_, _*_, _≤_, _<_}
 use native.Mathlib.Omega.{arith}
-use mathlib.Core.Path.{_≡_, _∙_}
+use mathlib.Core.Path.{_≡_, sym, ap, _∙_, subst}
 use mathlib.Core.Bool.{true}
 use mathlib.Core.List.{List, []}
-use lib.ListN.{length}
-use Rattle.chain.specs.Chains.{tasksOf}
+use lib.ListN.{length, take, getD}
+use Rattle.refusal.specs.declared.Refusal.{Refusal}
+use Rattle.refusal.specs.Refusals.{codeOf}
+use Rattle.task.specs.declared.Task.{Task}
+use Rattle.chain.specs.Chains.{givenOf, tasksOf}
+use Rattle.chain.specs.Flat.{givenIn}
+use Rattle.chain.specs.StandsFor.{StandsFor}
 use Rattle.schedule.specs.Schedules.{known}
 use Rattle.latency.specs.Latency.{greatestLatency}
-use Rattle.sections.specs.Sections.{sectionsAnswer}
+use Rattle.sections.specs.Sections.{sectionsOf, sectionsAnswer}
+use Rattle.sections.specs.Alone.{chain-alone}
 use Rattle.sections.specs.EveryCut.{whole-at-most, each-cut-adds, whole-answer, each-section-adds, never-lowers}
-use Rattle.capi_chain.specs.FlatChain.{chainFrom}
-use Rattle.capi_chain.specs.Front.{chain-twelve}
+use Rattle.capi_chain.specs.FlatChain.{placesOf, chainFrom}
+use Rattle.capi_chain.specs.Front.{chain-twelve, front-stands}
 use Rattle.capi_sections.specs.Calls.{GivesSections}
 
 module _ (tasks : List ℕ) (places gap : ℕ) where
@@ -51,3 +57,13 @@ module _ (tasks : List ℕ) (places gap : ℕ) where
           each-section-adds (chainFrom tasks places gap) t cuts more a b k,
         ),
       )
+
+  -- Whoever lends the tasks of section i, counted from 0, as a chain of their own with the same gap and no cut, gets code 0 and entry i of the latencies.
+  pub alone-for-c : (cuts latencies : List ℕ) (code count sum : ℕ) → GivesSections (chainFrom tasks places gap) cuts code latencies count sum → code ≡ 0 → (i : ℕ) → i < count
+      → (part : List ℕ) (n : ℕ) → givenIn (take (3 * placesOf (length part) n) part) ≡ getD (sectionsOf (givenOf (chainFrom tasks places gap)) cuts) i []
+      → (latencies′ : List ℕ) (code′ count′ sum′ : ℕ) → GivesSections (chainFrom part n gap) [] code′ latencies′ count′ sum′ → (code′ ≡ 0) × (sum′ ≡ getD latencies i 0)
+  unfolding chainFrom
+  alone-for-c cuts latencies code count sum gives fine i h part n e latencies′ code′ count′ sum′ gives′ =
+      let st = subst (λ (l : List Task). StandsFor gap l (chainFrom part n gap)) e (front-stands part n gap) in
+      let w = chain-alone (chainFrom tasks places gap) (chain-twelve tasks places gap) cuts (zero cuts latencies code count sum gives fine) i (omega (arith, gives .gives-count)) (chainFrom part n gap) st in
+      (gives′ .answers ∙ ap codeOf (w .0), gives′ .gives-sum ∙ w .1 ∙ ap (λ (x : List ℕ). getD x i 0) (sym (gives .gives-latencies)))

@@ -89,13 +89,13 @@ module _ (s : Schedule) (a : Arrays s) (n : ℕ) where
 
   -- of a table that was completed
   module _ (p : ℕ) (starts latencies starts′ latencies′ : List ℕ) (f : Figures) (makes : MakesFrom s n p starts latencies starts′ latencies′ (Whole f)) where
-    completed-chosen : choiceOf s n .number ≡ 0
+    pub completed-chosen : choiceOf s n .number ≡ 0
     completed-chosen = elim (decLt (choiceOf s n .number) 1) [
       | yes e ↦ omega arith
       | no e ↦ absurd (let q = makes .refused (λ z. omega arith) .0 in let z : _≡_ {A = ℕ} 0 1 = cc in omega arith)
     ]
 
-    made : Makes (chainAt s n) p starts latencies starts′ latencies′ (Whole f)
+    pub made : Makes (chainAt s n) p starts latencies starts′ latencies′ (Whole f)
     made = makes .answered completed-chosen
 
     pub table-is-walk-from : (t : ℕ) → f .tick .0 ≤ t → t ≤ upperTick → SameTicks (delayFrom s n t) (reading starts′ latencies′ (f .anchors) (f .hyperperiod) t)

@@ -1,4 +1,4 @@
--- Order 6's two laws, of the sections of a chain of a schedule: the whole chain's greatest latency is at most the sum, and cutting a section further never lowers the sum. Each cut adds at least 1.
+-- Order 6's two laws, of the sections of a chain of a schedule: the whole chain's greatest latency, which every completed table of it has, is at most the sum, and cutting a section further never lowers the sum. Each cut adds at least 1.
 use Prim.Native.Nat.{ℕ, _+_, _≤_}
 use native.Mathlib.Decide.{ℕ-discrete}
 use mathlib.Core.Path.{_≡_, sym, ap, _∙_}
@@ -13,11 +13,17 @@ use Rattle.schedule.specs.Schedules.{known, chainAt}
 use Rattle.schedule.specs.Arrays.{Arrays}
 use Rattle.schedule_checks.specs.Checks.{choiceOf, afterChoice}
 use Rattle.schedule_checks.specs.ChosenChain.{chosen-twelve, choice-answers}
+use Rattle.figures.specs.declared.Greatest.the-variants.{Latency}
+use Rattle.figures.specs.Figures.{greatestOf}
+use Rattle.maker.specs.declared.Figures.{Figures}
+use Rattle.maker.specs.declared.Made.the-variants.{Whole}
 use Rattle.latency.specs.Latency.{greatestLatency}
+use Rattle.latency.specs.GreatestDelay.{table-greatest}
 use Rattle.sections.specs.declared.Sections.{Sections}
 use Rattle.sections.specs.Sections.{sectionsAfter, sectionsAnswer}
 use Rattle.sections.specs.EveryCut.{whole-at-most, each-cut-adds, whole-answer, each-section-adds, never-lowers}
-use Rattle.from_schedule.specs.Answers.{sectionsFrom}
+use Rattle.from_schedule.specs.Answers.{sectionsFrom, MakesFrom}
+use Rattle.from_schedule.specs.ChainByChain.{completed-chosen, made}
 
 module _ (s : Schedule) (a : Arrays s) (n : ℕ) where
   -- an answer with no refusal is that of a chain that was chosen
@@ -31,7 +37,14 @@ module _ (s : Schedule) (a : Arrays s) (n : ℕ) where
   is : (cuts : List ℕ) → sectionsFrom s n cuts .refusal .number ≡ 0 → sectionsFrom s n cuts ≡ sectionsAnswer (chainAt s n) cuts
   is cuts fine = choice-answers s n _ (λ (c : Chain). sectionsAnswer c cuts) (chosen cuts fine)
 
-  -- The whole chain's greatest latency is at most the sum, and each cut adds at least 1.
+  -- The whole chain's greatest latency is the figure of every completed table of it.
+  pub table-from : (p : ℕ) (starts latencies starts′ latencies′ : List ℕ) (f : Figures) → MakesFrom s n p starts latencies starts′ latencies′ (Whole f)
+      → greatestOf starts′ latencies′ (f .anchors) (f .hyperperiod) ≡ Latency (greatestLatency (tasksOf (chainAt s n)))
+  table-from p starts latencies starts′ latencies′ f makes =
+      table-greatest (chainAt s n) (chosen-twelve s n a (completed-chosen s a n p starts latencies starts′ latencies′ f makes)) p starts latencies starts′ latencies′ f
+      (made s a n p starts latencies starts′ latencies′ f makes)
+
+  -- It is at most the sum, and each cut adds at least 1.
   pub whole-from : (cuts : List ℕ) → sectionsFrom s n cuts .refusal .number ≡ 0
       → (greatestLatency (tasksOf (chainAt s n)) ≤ sectionsFrom s n cuts .sum) × (greatestLatency (tasksOf (chainAt s n)) + length cuts ≤ sectionsFrom s n cuts .sum)
   whole-from cuts fine =

@@ -1,5 +1,6 @@
 // The greatest latency of a chain without a table: one walk over the partitions of a hyperperiod, with no list. And the place at which that walk is least work.
-// All functions are for the crates above, on flat lists of tasks that the checks accepted; `longest_place` counts places from 1, as document 01 does, the others the place p from 0.
+// All functions are for the crates above. `longest_place` takes any list of up to twelve tasks and counts places from 1, as document 01 does; the others take lists that the checks accepted and count
+// the place p from 0.
 use partition::Partition;
 use task::Job;
 use task::Place;
@@ -21,7 +22,7 @@ pub struct Greatest {
     pub walked: u64,
 }
 
-// The place of the longest period, counted from 1; the lowest among equals. It takes any tasks, up to twelve of them.
+// The place of the longest period, counted from 1; the lowest among equals.
 pub fn longest_place(tasks: &[u64], gap: u64) -> usize
     requires { ⌜ length (tasksIn gap (now tasks)) ≤ 12 ⌝ }
     ensures { λ r. ⌜ r ≡ longestPlace (tasksIn gap (now (tasks .entry))) ⌝ }

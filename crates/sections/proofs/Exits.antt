@@ -20,7 +20,7 @@ use Rattle.chain.proofs.Front.{rest-cons, rest-end}
 use Rattle.latency.specs.Latency.{AcceptedAt}
 use Rattle.latency.specs.LongestPlace.{longestPlace, longest-place}
 use Rattle.sections.specs.Sections.{risesTo, afterCuts}
-use Rattle.sections.specs.Uniform.{Cuttable, uniform-placed}
+use Rattle.sections.specs.Uniform.{Cuttable, cuttable-placed}
 
 -- ---- a turn of `rises`
 
@@ -64,7 +64,7 @@ pub accepted-cuts : (g : ℕ) (l : List Task) (cuts : List ℕ) (h : ℕ) → af
 accepted-cuts g l cuts h e =
     let w = well (length (placed g l)) h cuts (verdictIn g l) e in
     let f = accepted-in g l h (w .0) in
-    (record { uniform = uniform-placed g l (f .sound); small = omega (arith, f .hyper, f .small) }, w .1)
+    (cuttable-placed g l h (f .sound) (f .hyper) (f .small), w .1)
 
 -- ---- one section
 

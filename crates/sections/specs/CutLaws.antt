@@ -4,7 +4,7 @@ use native.Mathlib.Omega.{arith}
 use native.Mathlib.Nat.{suc-mul}
 use native.Mathlib.Decide.{ℕ-discrete}
 use mathlib.Core.Path.{_≡_, refl, sym, ap, _∙_, subst}
-use mathlib.Core.Bool.{Bool, true, false, cond, _&&_, false≢true}
+use mathlib.Core.Bool.{Bool, true, false, cond, false≢true}
 use mathlib.Core.List.{List, [], _∷_, _++_, map}
 use lib.Dec.{ltb, eqb}
 use lib.ListN.{length, take, drop, take-append-drop, length-drop}
@@ -12,6 +12,7 @@ use lib.Seq.{length-take-le, take-add, drop-drop}
 use borrow.Author.Tests.{ltb-true, lt-ltb, eq-eqb, ne-eqb}
 use Rattle.task.specs.declared.Place.{Place}
 use Rattle.schedule.specs.Schedules.{known}
+use Rattle.schedule.specs.Rule.{both}
 use Rattle.sections.specs.Sections.{partsFrom, risesTo, added}
 use Rattle.sections.specs.Uniform.{Uniform, uniform-front, uniform-rest}
 
@@ -21,12 +22,8 @@ further [] more = true
 further (c ∷ cuts) [] = false
 further (c ∷ cuts) (d ∷ more) = cond (eqb c d) (further cuts more) (further (c ∷ cuts) more)
 
-both : (a b : Bool) → (a && b) ≡ true → (a ≡ true) × (b ≡ true)
-both true b h = (refl, h)
-both false b h = absurd (false≢true h)
-
 -- each cut makes one section more
-pub sections-count : (cuts : List ℕ) (from : ℕ) (l : List Place) → length (partsFrom from l cuts) ≡ suc (length cuts)
+pub sections-count : {A : Type 0} (cuts : List ℕ) (from : ℕ) (l : List A) → length (partsFrom from l cuts) ≡ suc (length cuts)
 unfolding partsFrom
 sections-count [] from l = refl
 sections-count (c ∷ cuts) from l = ap suc (sections-count cuts c (drop (c - from) l))

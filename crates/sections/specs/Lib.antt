@@ -5,6 +5,6 @@ pub mod OneCut
 pub mod TwoSections
 pub mod CutLaws
 pub mod EveryCut
+pub mod Standing
 pub mod Alone
 pub mod PartOfList
-pub mod Standing

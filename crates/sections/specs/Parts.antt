@@ -13,7 +13,7 @@ use Rattle.chain.specs.Chains.{at, zeroPlace, lastPlace, forwardBy, walk}
 use Rattle.chain.specs.Checks.{Sound}
 use Rattle.chain.specs.Galois.{forward-cut}
 use Rattle.partition.specs.CutFree.{endWalk}
-use Rattle.sections.specs.Uniform.{part-sound}
+use Rattle.sections.specs.Uniform.{PartOf, part-sound}
 
 module _ (u v : List Place) (some-u : 1 ≤ length u) (some-v : 1 ≤ length v) (ok : Sound (u ++ v)) where
   at-left : (i : ℕ) → i < length u → at (u ++ v) i ≡ at u i
@@ -24,10 +24,10 @@ module _ (u v : List Place) (some-u : 1 ≤ length u) (some-v : 1 ≤ length v) 
 
   -- each part passes the checks
   pub sound-left : Sound u
-  sound-left = part-sound (u ++ v) u 0 some-u (omega (arith, length-append u v)) (λ p h. sym (at-left p h) ∙ ap (at (u ++ v)) (sym (zero-add p))) ok
+  sound-left = part-sound (u ++ v) u 0 (record { some = some-u; few = omega (arith, length-append u v); same = λ p h. sym (at-left p h) ∙ ap (at (u ++ v)) (sym (zero-add p)) }) ok
 
   pub sound-right : Sound v
-  sound-right = part-sound (u ++ v) v (length u) some-v (omega (arith, length-append u v)) (λ p h. sym (at-right p)) ok
+  sound-right = part-sound (u ++ v) v (length u) (record { some = some-v; few = omega (arith, length-append u v); same = λ p h. sym (at-right p) }) ok
 
   -- the way along the first part
   way-left : (n j : ℕ) → n < length u → forwardBy (u ++ v) 0 n j ≡ forwardBy u 0 n j

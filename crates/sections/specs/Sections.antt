@@ -16,12 +16,12 @@ use Rattle.schedule.specs.Schedules.{padded}
 use Rattle.latency.specs.Latency.{greatestLatency}
 use Rattle.sections.specs.declared.Sections.{Sections}
 
--- "c parts place c from the next": the sections after place `from`, where the places after it are l.
-unfoldable pub partsFrom : ℕ → List Place → List ℕ → List (List Place)
+-- "c parts place c from the next": the sections after place `from`, where the places after it, or their tasks, are l.
+unfoldable pub partsFrom : {A : Type 0} → ℕ → List A → List ℕ → List (List A)
 partsFrom from l [] = l ∷ []
 partsFrom from l (c ∷ cuts) = take (c - from) l ∷ partsFrom c (drop (c - from) l) cuts
 
-abbrev pub sectionsOf : List Place → List ℕ → List (List Place)
+abbrev pub sectionsOf : {A : Type 0} → List A → List ℕ → List (List A)
 sectionsOf l cuts = partsFrom 0 l cuts
 
 -- The cuts rise strictly, the first of them above `from`, and lie below n.

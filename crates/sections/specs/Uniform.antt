@@ -27,55 +27,64 @@ pub record Cuttable (g : ℕ) (l : List Place) : Type 0 where
   pub uniform : Uniform g l
   pub small : hyperOf l ≤ 60000000
 
+pub cuttable-placed : (g : ℕ) (l : List Task) (h : ℕ) → Sound (placed g l) → h ≡ hyperOf (placed g l) → h ≤ 60000000 → Cuttable g (placed g l)
+cuttable-placed g l h ok e small = record { uniform = uniform-placed g l ok; small = omega arith }
+
 -- m holds places of l, from place a on
-module _ (l m : List Place) (a : ℕ) (some : 1 ≤ length m) (few : a + length m ≤ length l) (same : (p : ℕ) → p < length m → at m p ≡ at l (a + p)) where
+pub record PartOf (l m : List Place) (a : ℕ) : Type 0 where
+  pub some : 1 ≤ length m
+  pub few : a + length m ≤ length l
+  pub same : (p : ℕ) → p < length m → at m p ≡ at l (a + p)
+
+module _ (l m : List Place) (a : ℕ) (part : PartOf l m a) where
   pub part-sound : Sound l → Sound m
   part-sound ok = record {
-    some = some;
-    few = omega (arith, ok .few);
-    each = λ p h. subst Limited (sym (same p h)) (ok .each (a + p) (omega arith));
+    some = part .some;
+    few = omega (arith, part .few, ok .few);
+    each = λ p h. subst Limited (sym (part .same p h)) (ok .each (a + p) (omega (arith, part .few)));
   }
 
-  part : (g : ℕ) → Uniform g l → Uniform g m
-  part g u = record { sound = part-sound (u .sound); gaps = λ p h. ap (λ (x : Place). x .gap) (same p h) ∙ u .gaps (a + p) (omega arith) }
-
-module _ (g : ℕ) (l : List Place) (u : Uniform g l) where
-  -- the first k places,
-  pub uniform-front : (k : ℕ) → 0 < k → k ≤ length l → Uniform g (take k l)
-  uniform-front k low high =
-      let n : length (take k l) ≡ k = length-take-le k l high in
-      part l (take k l) 0 (omega arith) (omega arith) (λ p h. getD-take k l p zeroPlace (omega arith) ∙ ap (at l) (omega arith)) g u
-
-  -- and those after them
-  pub uniform-rest : (k : ℕ) → k < length l → Uniform g (drop k l)
-  uniform-rest k high =
-      let n : length (drop k l) ≡ length l - k = length-drop k l in
-      part l (drop k l) k (omega arith) (omega arith) (λ p h. getD-drop k l p zeroPlace) g u
-
--- ---- the section after place a up to place e
-
-module _ (g : ℕ) (l : List Place) (u : Uniform g l) (a e : ℕ) (low : a < e) (high : e ≤ length l) where
-  abbrev section : List Place
-  section = take (e - a) (drop a l)
-
-  section-uniform : Uniform g section
-  section-uniform = uniform-front g (drop a l) (uniform-rest g l u a (omega arith)) (e - a) (omega arith) (omega (arith, length-drop a l))
-
-  size : length section ≡ e - a
-  size = length-take-le (e - a) (drop a l) (omega (arith, length-drop a l))
-
-  at-section : (p : ℕ) → p < e - a → at section p ≡ at l (a + p)
-  at-section p h = getD-take (e - a) (drop a l) p zeroPlace h ∙ getD-drop a l p zeroPlace
+  part-uniform : (g : ℕ) → Uniform g l → Uniform g m
+  part-uniform g u = record { sound = part-sound (u .sound); gaps = λ p h. ap (λ (x : Place). x .gap) (part .same p h) ∙ u .gaps (a + p) (omega (arith, part .few)) }
 
   -- its hyperperiod divides that of the whole,
-  divides : hyperOf section ∣ hyperOf l
-  divides = hyper-least section (hyperOf l) (λ p h. section-uniform .sound .each p h .period-pos)
-      (λ p h. subst (λ (t : Place). t .period ∣ hyperOf l) (sym (at-section p (omega (arith, size)))) (hyper-multiple l (a + p) (omega (arith, size))))
+  divides : Sound l → hyperOf m ∣ hyperOf l
+  divides ok = hyper-least m (hyperOf l) (λ p h. part-sound ok .each p h .period-pos)
+      (λ p h. subst (λ (t : Place). t .period ∣ hyperOf l) (sym (part .same p h)) (hyper-multiple l (a + p) (omega (arith, part .few))))
 
-  -- so it is no longer
-  section-hyper : hyperOf section ≤ hyperOf l
-  section-hyper = le-of-dvd (hyper-pos l (u .sound)) divides
+  -- so it is no longer, and 7 accepts the part
+  part-cuttable : (g : ℕ) → Cuttable g l → Cuttable g m
+  part-cuttable g k = record {
+    uniform = part-uniform g (k .uniform);
+    small = omega (arith, le-of-dvd (hyper-pos l (k .uniform .sound)) (divides (k .uniform .sound)), k .small);
+  }
 
--- A section of what is accepted is accepted.
+module _ (l : List Place) where
+  -- the first k places,
+  front-part : (k : ℕ) → 0 < k → k ≤ length l → PartOf l (take k l) 0
+  front-part k low high =
+      let n : length (take k l) ≡ k = length-take-le k l high in
+      record { some = omega arith; few = omega arith; same = λ p h. getD-take k l p zeroPlace (omega arith) ∙ ap (at l) (omega arith) }
+
+  -- and those after them
+  rest-part : (k : ℕ) → k < length l → PartOf l (drop k l) k
+  rest-part k high =
+      let n : length (drop k l) ≡ length l - k = length-drop k l in
+      record { some = omega arith; few = omega arith; same = λ p h. getD-drop k l p zeroPlace }
+
+module _ (g : ℕ) (l : List Place) where
+  pub uniform-front : Uniform g l → (k : ℕ) → 0 < k → k ≤ length l → Uniform g (take k l)
+  uniform-front u k low high = part-uniform l (take k l) 0 (front-part l k low high) g u
+
+  pub uniform-rest : Uniform g l → (k : ℕ) → k < length l → Uniform g (drop k l)
+  uniform-rest u k high = part-uniform l (drop k l) k (rest-part l k high) g u
+
+  pub cuttable-front : Cuttable g l → (k : ℕ) → 0 < k → k ≤ length l → Cuttable g (take k l)
+  cuttable-front c k low high = part-cuttable l (take k l) 0 (front-part l k low high) g c
+
+  pub cuttable-rest : Cuttable g l → (k : ℕ) → k < length l → Cuttable g (drop k l)
+  cuttable-rest c k high = part-cuttable l (drop k l) k (rest-part l k high) g c
+
+-- The section after place a up to place e of what is accepted is accepted.
 pub section-cuttable : (g : ℕ) (l : List Place) → Cuttable g l → (a e : ℕ) → a < e → e ≤ length l → Cuttable g (take (e - a) (drop a l))
-section-cuttable g l k a e low high = record { uniform = section-uniform g l (k .uniform) a e low high; small = omega (arith, section-hyper g l (k .uniform) a e low high, k .small) }
+section-cuttable g l k a e low high = cuttable-front g (drop a l) (cuttable-rest g l k a (omega arith)) (e - a) (omega arith) (omega (arith, length-drop a l))
