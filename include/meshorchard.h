@@ -38,8 +38,9 @@
  * cut at the longest period: at most 0.1 s a chain. mo_bookings goes once through the common hyperperiod, from one change of a booking to
  * the next, and a change costs each place of its chain twice: 0.5 s for one place of period 1 beside 768 and 78,125, and at the worst,
  * twelve places of period 1 beside 16, 9, 5, 7, 11, 23 and 47, 10 s.
- * mo_sections walks, of each section, h / T partitions, h being the section's own hyperperiod and T its longest period, and makes no list:
- * SECTIONTIME. Cuts cost nothing: the first that is out of order ends the look at them, so no more than twelve are read.
+ * mo_sections walks, of each section, h / T partitions, h being the section's own hyperperiod and T its longest period, and makes no list.
+ * A partition costs each of the section's places once, so however a chain is cut, at most 0.05 s: 3,063,060 partitions of twelve places.
+ * Cuts cost nothing: the first that is out of order ends the look at them, so no more than twelve are read.
  * (One run on a server's processor; an instrument's takes longer.) Nothing else that is lent makes a call take long.
  *
  * Stack. What each call needs below its caller's frame, in bytes, is MO_STACK_ below: measured on x86-64 and rounded up, not proved. The C
