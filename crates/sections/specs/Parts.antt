@@ -13,7 +13,7 @@ use Rattle.chain.specs.Chains.{at, zeroPlace, lastPlace, forwardBy, walk}
 use Rattle.chain.specs.Checks.{Sound}
 use Rattle.chain.specs.Galois.{forward-cut}
 use Rattle.partition.specs.CutFree.{endWalk}
-use Rattle.sections.specs.Uniform.{PartOf, part-sound}
+use Rattle.sections.specs.Uniform.{part-sound}
 
 module _ (u v : List Place) (some-u : 1 ≤ length u) (some-v : 1 ≤ length v) (ok : Sound (u ++ v)) where
   at-left : (i : ℕ) → i < length u → at (u ++ v) i ≡ at u i
