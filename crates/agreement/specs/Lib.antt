@@ -8,3 +8,4 @@ pub mod EveryChain
 pub mod MeanByArea
 pub mod Reached
 pub mod Answers
+pub mod DelayCounts

@@ -42,11 +42,11 @@ module _ (c : Chain) (twelve : length (c .tasks) ≡ 12) (p : ℕ) (s v s′ v�
         let w = well-formed-iff s′ v′ (f .anchors) (f .hyperperiod) .0 (made-well-formed c twelve p s v s′ v′ f makes) in
         well-formed-laws s′ v′ (f .anchors) (f .hyperperiod) w
 
-    first : firstStart made ≡ f .tick .0
+    pub first : firstStart made ≡ f .tick .0
     first = ap firstStart (made-anchors c twelve p s v s′ v′ f makes) ∙ made-first c twelve p s v s′ v′ f makes ∙ sym (held c twelve p s v s′ v′ f makes .tick)
 
     -- at whole ticks the table gives the walk's delay
-    same : (t : ℕ) → firstStart made ≤ t → delayAt (tasksOf c) t ≡ table.delayAt (f .hyperperiod) made t
+    pub same : (t : ℕ) → firstStart made ≤ t → delayAt (tasksOf c) t ≡ table.delayAt (f .hyperperiod) made t
     same t h =
         let k = held c twelve p s v s′ v′ f makes in
         rw (made-anchors c twelve p s v s′ v′ f makes, k .hyper) (sym (table-walk (tasksOf c) (k .sound) t (omega (arith, k .tick, first))))

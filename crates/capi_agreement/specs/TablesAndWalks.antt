@@ -1,9 +1,9 @@
 -- Demand 3 of the calls for C, with any gap (order 5), from their own contracts: from code 0 of mo_make_table, mo_read_table gives at every tick what mo_delay gives (`table-is-walk-for-c`),
 -- two cuts leave the same entries below g (`cuts-agree-for-c`), and mo_greatest's latency is the greatest delay of mo_delay and 1 + the greatest age of mo_age
--- (`greatest-for-c`), and at most the sum of mo_sections, however the chain is cut (`sections-for-c`), which it is with no cut (`no-cut-for-c`). When mo_make_table answers 0 is `completes-for-c`. And mo_mean's two numbers give the mean of the walk's delay at every time of a hyperperiod (`mean-for-c`).
+-- (`greatest-for-c`), and at most the sum of mo_sections, however the chain is cut (`sections-for-c`), which it is with no cut (`no-cut-for-c`). When mo_make_table answers 0 is `completes-for-c`. And mo_mean's two numbers give the mean of the walk's delay at every time of a hyperperiod (`mean-for-c`); mo_histogram's entries and rest count the walk's delays (`counts-for-c`).
 use Prim.Native.Nat.{ℕ, _+_, _*_, _/_, _≤_, _<_}
 use native.Mathlib.Omega.{arith}
-use mathlib.Core.Path.{_≡_, sym, ap, _∙_}
+use mathlib.Core.Path.{_≡_, refl, sym, ap, _∙_}
 use mathlib.Core.List.{List, [], _∷_}
 use lib.ListN.{length, getD}
 use lib.Seq.{getD-take, length-take-le}
@@ -24,17 +24,22 @@ use Rattle.table.specs.Reading.{reading, wordOf, GivesWord}
 use Rattle.table.specs.Words.{word-small}
 use Rattle.figures.specs.Figures.{greatestOf, meanOf}
 use Rattle.figures.specs.Integral.{Integral}
+use Rattle.histogram.specs.declared.Histogram.{Histogram}
+use Rattle.histogram.specs.Histogram.{histogramOf, countsOf, Gives}
+use Rattle.histogram.specs.EveryHyperperiod.{Counts, CountsDelays}
 use Rattle.maker.specs.declared.Figures.{Figures}
 use Rattle.maker.specs.declared.Made.the-variants as made
 use Rattle.maker.specs.Making.{judged, Makes}
 use Rattle.maker.proofs.Exits.{tells-so}
 use Rattle.agreement.specs.Agreement.{SameGreatest, held, table-is-walk, cuts-agree, greatest-is-delay-and-age}
 use Rattle.agreement.specs.MeanByArea.{mean-is-integral}
+use Rattle.agreement.specs.DelayCounts.{counts-walks}
 use Rattle.agreement.specs.EveryChain.{Asked, room-enough}
 use Rattle.capi_chain.specs.FlatChain.{taskAt, chainFrom}
 use Rattle.capi_chain.specs.Front.{chain-at, chain-twelve, places-inside, chain-count, places-given}
 use Rattle.capi_timing.specs.Calls.{spanCode, spanTicks, GivesCheck, GivesDelay, GivesAge}
 use Rattle.capi_figures.specs.Calls.{greatestNumbers, GivesGreatest, meanNumbers, GivesMean}
+use Rattle.capi_histogram.specs.Calls.{histogramNumbers, GivesHistogram}
 use Rattle.capi_maker.specs.Calls.{madeCode, madeNumbers, GivesTable}
 use Rattle.latency.specs.Latency.{greatestLatency}
 use Rattle.latency.specs.GreatestDelay.{table-greatest}
@@ -190,6 +195,22 @@ module _ (tasks : List ℕ) (places gap : ℕ) where
         let k : ticks ≡ 2 * done .given .hyperperiod = ap (λ (l : List ℕ). getD l 2 0) n in (
           ap (λ (l : List ℕ). getD l 0 0) n,
           record { integral = λ t h. rw (e, done .hyperperiod) (m .integral t (omega (arith, done .from))); doubled-ticks = omega (arith, k, done .hyperperiod) },
+        )
+
+    -- Order 7: the list and the rest count the walk's delays at the h ticks from any tick on that is not before the warm-up tick.
+    pub counts-for-c : (width : ℕ) (counts list : List ℕ) (code′ rest : ℕ) → GivesHistogram s′ v′ (count figures) (hyper figures) width counts list code′ rest → 1 ≤ width
+        → (code′ ≡ 0) × ((t : ℕ) → tick figures ≤ t → Counts (delayAt (tasksOf c)) t (hyper figures) width list rest)
+    counts-for-c width counts list code′ rest g some =
+        let f = done .given in
+        let r : Histogram = histogramOf s′ v′ (f .anchors) (f .hyperperiod) width (length counts) in
+        let same : Gives s′ v′ (f .anchors) (f .hyperperiod) width counts list r = record { answer = refl; leaves = rw (← (done .anchors), ← (done .hyperperiod)) (g .leaves) } in
+        let k = counts-walks c twelve p s v s′ v′ f (done .makes) width counts list r same some in
+        let n : (code′ ∷ rest ∷ []) ≡ 0 ∷ k .rest ∷ []
+        = g .answers ∙ ap (λ (x : ℕ). histogramNumbers (histogramOf s′ v′ x (hyper figures) width (length counts))) (done .anchors)
+        ∙ ap (λ (x : ℕ). histogramNumbers (histogramOf s′ v′ (f .anchors) x width (length counts))) (done .hyperperiod) ∙ ap histogramNumbers (k .answered) in
+        let e : rest ≡ k .rest = ap (λ (l : List ℕ). getD l 1 0) n in (
+          ap (λ (l : List ℕ). getD l 0 0) n,
+          λ t h. rw (e, done .hyperperiod) (k .counts t (omega (arith, done .from))),
         )
 
   pub cuts-agree-for-c : (p q : ℕ) (s v : List ℕ) (code : ℕ) (s′ v′ figures : List ℕ) → GivesTable c p s v code s′ v′ figures → code ≡ 0

@@ -1,1 +1,1 @@
-pub mod Arms
+pub mod Small

@@ -79,7 +79,7 @@ fn with_anchor(m: Gathered, d: u64, v: u64) -> Gathered
 }
 
 // The ticks from the start at place i to the next start, which is `end` after the last place.
-fn distance_at(starts: &[u64], g: usize, end: u64, i: usize) -> u64
+pub fn distance_at(starts: &[u64], g: usize, end: u64, i: usize) -> u64
     requires { ⌜ (i < g) × (g ≤ length (now starts)) × (getD (now starts) i 0 ≤ nextStart (now starts) g end i) ⌝ }
     ensures { λ r. ⌜ r ≡ nextStart (now (starts .entry)) g end i - getD (now (starts .entry)) i 0 ⌝ }
 {

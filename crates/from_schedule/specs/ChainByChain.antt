@@ -1,6 +1,6 @@
 -- "Table and walk must agree chain by chain" (order 1 of document 02): the third demand of every chain of every schedule with any permitted gap (order 5), of the analyses from a schedule.
 -- The table that making gives of chain n is read at every tick as walking chain n gives it (`table-is-walk-from`); its greatest latency is the greatest delay of walking and 1 + the greatest age of ageing chain n
--- (`greatest-from`); two cuts give the same anchors (`cuts-agree-from`); its mean by area is that of walking chain n at every time of a hyperperiod (`mean-from`). With no premise on what making answers: `every-chain-from`, `every-two-cuts-from`.
+-- (`greatest-from`); two cuts give the same anchors (`cuts-agree-from`); its mean by area is that of walking chain n at every time of a hyperperiod (`mean-from`), and its histogram counts the delays of walking chain n (`counts-from`). With no premise on what making answers: `every-chain-from`, `every-two-cuts-from`.
 use Prim.Native.Nat.{ℕ, suc, _≤_}
 use native.Mathlib.Omega.{arith}
 use native.Mathlib.Decide.{decLt}
@@ -25,9 +25,13 @@ use Rattle.maker.specs.declared.Figures.{Figures}
 use Rattle.maker.specs.declared.Made.{Made}
 use Rattle.maker.specs.declared.Made.the-variants.{Whole}
 use Rattle.maker.specs.Making.{figuresOf, Makes}
+use Rattle.histogram.specs.declared.Histogram.{Histogram}
+use Rattle.histogram.specs.Histogram.{Gives}
+use Rattle.histogram.specs.EveryHyperperiod.{CountsDelays}
 use Rattle.agreement.specs.GreatestAge.{GreatestWithin}
 use Rattle.agreement.specs.Agreement.{SameTicks, SameAnchors, SameGreatest, table-is-walk, cuts-agree, greatest-is-delay-and-age}
 use Rattle.agreement.specs.MeanByArea.{MeanIsIntegral, mean-is-integral}
+use Rattle.agreement.specs.DelayCounts.{counts-walks}
 use Rattle.agreement.specs.EveryChain.{Asked, anchorCount, every-chain, every-two-cuts}
 use Rattle.from_schedule.specs.Answers.{delayFrom, ageFrom, MakesFrom}
 
@@ -107,6 +111,11 @@ module _ (s : Schedule) (a : Arrays s) (n : ℕ) where
     -- The mean by area, of the walk's delay at every time of a hyperperiod.
     pub mean-from : MeanIsIntegral (chainAt s n) starts′ latencies′ f
     mean-from = mean-is-integral (chainAt s n) (chosen-twelve s n a completed-chosen) p starts latencies starts′ latencies′ f made
+
+    -- How often each delay occurs, of the walk's delays at the ticks of a hyperperiod.
+    pub counts-from : (width : ℕ) (counts list : List ℕ) (r : Histogram) → Gives starts′ latencies′ (f .anchors) (f .hyperperiod) width counts list r → 1 ≤ width
+        → CountsDelays (delayAt (tasksOf (chainAt s n))) (f .tick .0) (f .hyperperiod) width list r
+    counts-from = counts-walks (chainAt s n) (chosen-twelve s n a completed-chosen) p starts latencies starts′ latencies′ f made
 
   pub cuts-agree-from : (p q : ℕ) (starts latencies starts′ latencies′ : List ℕ) (f : Figures) → MakesFrom s n p starts latencies starts′ latencies′ (Whole f)
       → (x y x′ y′ : List ℕ) (g : Figures) → MakesFrom s n q x y x′ y′ (Whole g) → SameAnchors starts′ latencies′ x′ y′ f g

@@ -2,7 +2,8 @@
 use mathlib.Core.Path.{refl}
 use borrow.Author.Needs.{needs}
 use Rattle.capi_figures.specs.Calls.{meanNumbers}
-use Rattle.capi_figures.proofs.Arms.{gives, gives-refusal, fits, mean-small}
+use Rattle.refusal.specs.Arms.{gives, gives-refusal, fits}
+use Rattle.capi_figures.proofs.Small.{mean-small}
 use Rattle.capi_figures.proofs.mo_mean.Statement.{statement}
 use Rattle.capi_figures.proofs.mo_mean.Tie as tie
 

@@ -1,0 +1,5 @@
+pub mod Histogram
+pub mod Counting
+pub mod Marking
+pub mod Entries
+pub mod EveryHyperperiod
