@@ -1,7 +1,7 @@
 """Reference program of Meshorchard: delay tables for chains of
 fixed-duration tasks of cave-survey laser instruments.
 
-It is written from document 01 and orders 1 to 3, 5 and 6 of document 02
+It is written from document 01 and orders 1 to 3 and 5 to 7 of document 02
 alone and follows their definitions as literally as running time allows.  It
 uses the standard library only.  Order 4 changes no answer.
 
@@ -609,6 +609,69 @@ def exceedance(starts, latencies, g, H, B):
     if H <= ENUMERATION_LIMIT:
         return ("ok", exceedance_by_enumeration(starts, latencies, g, H, B))
     return ("ok", exceedance_by_segments(starts, latencies, g, H, B))
+
+
+# ---------------------------------------------------------------------------
+# How often each delay occurs
+# ---------------------------------------------------------------------------
+
+def histogram_by_enumeration(starts, latencies, g, H, width, length):
+    """(counts, rest), tick by tick.
+
+    A delay lies from i * width up to below (i + 1) * width for one i, the
+    whole part of delay / width.
+    """
+    counts = [0] * length
+    rest = 0
+    for one in delays_of_hyperperiod(starts, latencies, g, H):
+        if one >= length * width:
+            rest += 1
+        else:
+            counts[one // width] += 1
+    return (counts, rest)
+
+
+def histogram_by_segments(starts, latencies, g, H, width, length):
+    """The same, segment by segment.
+
+    In a segment the delays fall by one, so it has each delay from its
+    latency down to its least one once.  An entry counts those that lie
+    within its own first and last delay too.
+    """
+    counts = [0] * length
+    rest = 0
+    for latency, distance in segments_of_table(starts, latencies, g, H):
+        least = latency - distance + 1
+        # The entries of the list that the segment meets.
+        for i in range(least // width, min(latency // width + 1, length)):
+            first = max(least, i * width)
+            last = min(latency, (i + 1) * width - 1)
+            counts[i] += last - first + 1
+        rest += max(0, latency - max(least, length * width) + 1)
+    return (counts, rest)
+
+
+def histogram(starts, latencies, g, H, width, length):
+    """How often each delay occurs: ("ok", counts, rest), or refusal 14, 18.
+
+    Document 02, order 7: "entry i of a lent list counts delays from i *
+    width up to below (i + 1) * width, and a separate count takes those
+    beyond the list."  The delays are those of document 01, "Reading a
+    table", at the H ticks from first start.  The lent list has `length`
+    entries, and 0 is allowed.  A success leaves the counts in all of them,
+    whatever they held; a refusal leaves them as they are.
+    """
+    if not well_formed(starts, latencies, g, H):
+        return refused(14)
+    if width == 0:
+        return refused(18)
+    if H <= ENUMERATION_LIMIT:
+        counts, rest = histogram_by_enumeration(starts, latencies, g, H,
+                                                width, length)
+    else:
+        counts, rest = histogram_by_segments(starts, latencies, g, H,
+                                             width, length)
+    return ("ok", counts, rest)
 
 
 # ---------------------------------------------------------------------------

@@ -996,6 +996,11 @@ def group_well_formed(_rng):
         same(ref.mean(s, latency, count, hyper), refusal, what)
         same(ref.throughput(s, latency, count, hyper), refusal, what)
         same(ref.exceedance(s, latency, count, hyper, 0), refusal, what)
+        # 14 before 18.
+        for width in (0, 1, 7, 2 ** 64 - 1):
+            for length in (0, 1, 20):
+                same(ref.histogram(s, latency, count, hyper, width, length),
+                     refusal, "%s, width %d" % (what, width))
     passes = [
         ("latency 60,000,000", starts, [60_000_000, 6, 7, 0], g, H),
         ("latency 60,000,001", starts, [60_000_001, 6, 7, 0], g, H),
@@ -1012,6 +1017,11 @@ def group_well_formed(_rng):
     ]
     for what, s, latency, count, hyper in passes:
         same(ref.well_formed(s, latency, count, hyper), True, what)
+        for length in (0, 1, 20):
+            same(ref.histogram(s, latency, count, hyper, 0, length),
+                 ("refused", 18, 0), what + ", width 0")
+            same(ref.histogram(s, latency, count, hyper, 1, length)[0], "ok",
+                 what + ", width 1")
     same(ref.read_table(starts, latencies, g, H, 4), ("refused", 12, 0),
          "below first start")
     same(ref.read_table(starts, latencies, g, H, 5), ("ok", 5),
@@ -3711,6 +3721,426 @@ def group_sections_of_schedules(rng):
                      "the schedule first")
 
 
+# ---------------------------------------------------------------------------
+# How often each delay occurs, order 7
+# ---------------------------------------------------------------------------
+
+WIDE = [2 ** 32, 2 ** 32 + 1, 2 ** 52, 2 ** 62, 2 ** 63 - 1, 2 ** 63,
+        2 ** 63 + 1, 2 ** 64 - 1]
+
+
+def literal_histogram(delays, width, length):
+    """The words of order 7, each count from the ticks by itself.
+
+    Beyond the list are the delays that lie in none of its entries.
+    """
+    entries = [(i * width, (i + 1) * width) for i in range(length)]
+    counts = [sum(1 for one in delays if begin <= one < end)
+              for begin, end in entries]
+    rest = sum(1 for one in delays
+               if not any(begin <= one < end for begin, end in entries))
+    return (counts, rest)
+
+
+def ticks_below(table, bound):
+    """How many of the H ticks have a delay below the bound.
+
+    The delay falls between two starts, so these are the last ticks there,
+    the ones that come more than latency - bound ticks after the start.
+    """
+    starts, latencies, g, H = table
+    edges = starts[:g] + [starts[0] + H]
+    below = 0
+    for start, next_start, latency in zip(edges, edges[1:], latencies):
+        first = start + max(0, latency - bound + 1)
+        below += max(0, next_start - first)
+    return below
+
+
+def histogram_from_below(table, width, length):
+    """The counts as differences, which serves as another method."""
+    below = [ticks_below(table, i * width) for i in range(length + 1)]
+    return ([after - before for before, after in zip(below, below[1:])],
+            table[3] - below[-1])
+
+
+def some_widths(rng, delays):
+    """Widths with which delays lie at the ends of entries, and others."""
+    one = rng.choice(delays)
+    return {1, 2, rng.randint(1, 2 * max(delays)), one - 1, one, one + 1,
+            min(delays) - 1, min(delays), min(delays) + 1, max(delays) - 1,
+            max(delays), max(delays) + 1, (one + 1) // 2, (one + 2) // 3,
+            rng.choice(WIDE)}
+
+
+def some_lengths(rng, delays, width):
+    """Lengths with which the list ends near the greatest or least delay."""
+    last = max(delays) // width
+    lengths = {0, 1, last - 1, last, last + 1, last + 2,
+               min(delays) // width, min(delays) // width + 1,
+               rng.randint(0, last + 5)}
+    return {length for length in lengths if 0 <= length}
+
+
+def group_histogram_by_hand(_rng):
+    most = 60_000_000
+    longest = 60_011_000
+    # A table, its delays from first start on, and for a width the counts
+    # and the rest.  Delays of A: 11, 12, 17 and 18 once, 13 to 16 twice.
+    each = [0] * 11 + [1, 1, 2, 2, 2, 2, 1, 1]
+    delays_a = [18, 17, 16, 15, 14, 13, 12, 11, 16, 15, 14, 13]
+    cases = [
+        ("chain A", TABLE_A, delays_a, [
+            (1, each, 0), (1, each + [0], 0), (1, each + [0] * 9, 0),
+            # The list ends at the greatest delay, before it, and so on.
+            (1, each[:18], 1), (1, each[:17], 2), (1, each[:16], 4),
+            (1, each[:13], 10), (1, each[:12], 11), (1, each[:11], 12),
+            (1, each[:10], 12), (1, [0], 12), (1, [], 12),
+            # 10 and 11, 12 and 13, 14 and 15, 16 and 17, 18 and 19.
+            (2, [0] * 5 + [1, 3, 4, 3, 1], 0), (2, [0] * 5 + [1, 3, 4, 3], 1),
+            # 9 to 11, 12 to 14, 15 to 17, 18 to 20.
+            (3, [0, 0, 0, 1, 5, 5, 1], 0), (3, [0, 0, 0, 1, 5, 5], 1),
+            (3, [0, 0, 0, 1, 5], 6), (3, [0, 0, 0, 1], 11),
+            # 8 to 11, 12 to 15, 16 to 19.
+            (4, [0, 0, 1, 7, 4], 0), (4, [0, 0, 1, 7], 4), (4, [0, 0, 1], 11),
+            # 10 to 14, 15 to 19.
+            (5, [0, 0, 6, 6], 0), (5, [0, 0, 6, 6, 0], 0), (5, [0, 0, 6], 6),
+            (5, [0, 0], 12), (5, [0], 12), (5, [], 12),
+            # 6 to 11, 12 to 17, 18 to 23.
+            (6, [0, 1, 10, 1], 0), (6, [0, 1, 10], 1),
+            # 7 to 13, 14 to 20.
+            (7, [0, 4, 8], 0), (8, [0, 8, 4], 0), (9, [0, 11, 1], 0),
+            (9, [0, 11], 1), (10, [0, 12], 0), (10, [0], 12),
+            # The least delay is 11, the greatest 18.
+            (11, [0, 12], 0), (11, [0], 12), (12, [1, 11], 0),
+            (12, [1], 11), (13, [2, 10], 0), (14, [4, 8], 0),
+            (15, [6, 6], 0), (16, [8, 4], 0), (17, [10, 2], 0),
+            (17, [10], 2), (18, [11, 1], 0), (18, [11, 1, 0], 0),
+            (18, [11], 1), (18, [], 12), (19, [12], 0), (19, [12, 0], 0),
+            (19, [], 12), (20, [12], 0)]),
+        ("chain B", ([5], [13], 1, 10), [13, 12, 11, 10, 9, 8, 7, 6, 5, 4], [
+            (1, [0] * 4 + [1] * 10, 0), (1, [0] * 4 + [1] * 9, 1),
+            (4, [0, 4, 4, 2], 0), (4, [0, 4, 4], 2), (5, [1, 5, 4], 0),
+            (13, [9, 1], 0), (13, [9], 1), (14, [10], 0), (3, [0, 2], 8)]),
+        ("chain C", ([0], [15], 1, 5), [15, 14, 13, 12, 11], [
+            (5, [0, 0, 4, 1], 0), (5, [0, 0, 4], 1), (15, [4, 1], 0),
+            (15, [4], 1), (16, [5], 0), (12, [1, 4], 0), (12, [], 5)]),
+        ("chain C, gap 1", ([0], [20], 1, 5), [20, 19, 18, 17, 16], [
+            (4, [0, 0, 0, 0, 4, 1], 0), (10, [0, 4], 1), (20, [4, 1], 0)]),
+        ("chain D", ([90], [16], 1, 10), list(range(16, 6, -1)), [
+            (8, [1, 8, 1], 0), (8, [1, 8], 1), (16, [9], 1), (17, [10], 0)]),
+        ("H one", ([0], [2], 1, 1), [2], [
+            (1, [0, 0, 1], 0), (1, [0, 0], 1), (1, [0], 1), (1, [], 1),
+            (2, [0, 1], 0), (2, [0], 1), (2, [], 1), (3, [1], 0),
+            (3, [1, 0], 0), (3, [], 1)]),
+        ("entries from g on", ([3, 5, 6, 0], [4, 9, 7, 2 ** 64 - 1], 2, 6),
+         [4, 3, 9, 8, 7, 6],
+         [(1, [0, 0, 0, 1, 1, 0, 1, 1, 1, 1], 0), (3, [0, 2, 3, 1], 0),
+          (3, [0, 2, 3], 1), (4, [1, 3, 2], 0), (9, [5], 1), (10, [6], 0)]),
+        ("a latency that comes once more", ([4, 5], [3, 3], 2, 2), [3, 3], [
+            (1, [0, 0, 0, 2], 0), (1, [0, 0, 0], 2), (3, [0, 2], 0),
+            (3, [0], 2), (4, [2], 0)]),
+        ("H one at the limits", ([1_000_000_000], [longest], 1, 1),
+         [longest], [
+            (1, [0] * 4_096, 1), (1_000, [0] * 60_011 + [1], 0),
+            (1_000, [0] * 60_011, 1), (longest, [0, 1], 0),
+            (longest, [0], 1), (longest + 1, [1], 0)]),
+        # The delays are 60,011,000 down to 11,001.
+        ("at the limits", ([1_000_000_000], [longest], 1, most), None, [
+            (1, [], most), (1, [0] * 11_001, most),
+            (1, [0] * 11_001 + [1], 59_999_999),
+            # 11,001 to 19,999.  From 30,000 on there are 59,981,001.
+            (10_000, [0, 8_999, 10_000], 59_981_001),
+            # The last one begins at 5,455 times 11,000, 60,005,000.
+            (11_000, [0, 10_999] + [11_000] * 5_453 + [6_001], 0),
+            (11_000, [0, 10_999] + [11_000] * 5_453, 6_001),
+            (11_001, [0, 11_001, 11_001], 59_977_998),
+            (11_002, [1, 11_002, 11_002], 59_977_995),
+            # Twice 30,005,500 is the greatest delay.
+            (30_005_500, [29_994_499, 30_005_500, 1], 0),
+            (30_005_500, [29_994_499, 30_005_500], 1),
+            (30_005_501, [29_994_500, 30_005_500], 0),
+            (longest - 1, [59_999_998, 2], 0), (longest, [59_999_999, 1], 0),
+            (longest, [59_999_999], 1), (longest + 1, [most], 0)]),
+        # Each of 6,000 anchors has 60,011,000 down to 60,001,001.
+        ("many anchors", (list(range(0, most, 10_000)), [longest] * 6_000,
+                          6_000, most), None, [
+            (60_001_001, [0, most], 0), (60_001_001, [0], most),
+            (60_001_002, [6_000, 59_994_000], 0),
+            (longest, [59_994_000, 6_000], 0),
+            (longest, [59_994_000], 6_000), (longest + 1, [most], 0),
+            # 9,499 delays are below 60,010,500, and 501 are not.
+            (30_005_250, [0, 56_994_000, 3_006_000], 0)]),
+        # Delays 2 down to 2 and 60,000,000 down to 2.
+        ("H at its limit", ([0, 1], [2, most], 2, most), None, [
+            (1, [0, 0, 2, 1, 1], 59_999_996), (2, [0, 3, 2], 59_999_995),
+            (3, [2, 3], 59_999_995), (most, [59_999_999, 1], 0),
+            (most, [59_999_999], 1), (most + 1, [most], 0)]),
+    ]
+    for what, table, delays, counted in cases:
+        starts, latencies, g, H = table
+        if delays is not None:
+            same([ref.read_table(*table, starts[0] + r)[1]
+                  for r in range(H)], delays, what + ", delays by hand")
+        for width, counts, rest in counted:
+            length = len(counts)
+            entry = "%s, width %d, length %d" % (what, width, length)
+            same(sum(counts) + rest, H, entry + ", sum by hand")
+            same(ref.histogram(*table, width, length), ("ok", counts, rest),
+                 entry)
+            same(ref.histogram_by_segments(*table, width, length),
+                 (counts, rest), entry + ", by segments")
+            if delays is not None:
+                same(ref.histogram_by_enumeration(*table, width, length),
+                     (counts, rest), entry + ", by ticks")
+                if length < 100:
+                    same(literal_histogram(delays, width, length),
+                         (counts, rest), entry + ", as the self test has it")
+        # Wide entries: all lie in the first, and in no other, also where
+        # the end of an entry or of the list is 2 to the 64 or more.
+        for width in WIDE:
+            same(ref.histogram(*table, width, 0), ("ok", [], H), what)
+            for length in (1, 2, 3, 4, 5, 4_095, 4_096, 4_097):
+                same(ref.histogram(*table, width, length),
+                     ("ok", [H] + [0] * (length - 1), 0),
+                     "%s, width %d, length %d" % (what, width, length))
+
+
+def group_histogram(rng):
+    """Random tables: the words of order 7, and both methods."""
+    met = {}
+    for turn in range(240):
+        table = random_table(rng, rng.choice([1, 2, 5, 12, 40, 90]))
+        starts, latencies, g, H = table
+        given = (list(starts), list(latencies), g, H)
+        delays = [ref.read_table(*table, starts[0] + r)[1] for r in range(H)]
+        # A hyperperiod may begin at any tick, the delays are the same.
+        later = starts[0] + rng.randint(0, 5 * H)
+        same(sorted(ref.read_table(*table, later + r)[1] for r in range(H)),
+             sorted(delays), "a hyperperiod from a later tick")
+        for width in sorted(some_widths(rng, delays)):
+            for length in sorted(some_lengths(rng, delays, width)):
+                what = "%r width %d length %d" % (table, width, length)
+                counts, rest = literal_histogram(delays, width, length)
+                same(ref.histogram(*table, width, length),
+                     ("ok", counts, rest), what)
+                same(ref.histogram_by_enumeration(*table, width, length),
+                     (counts, rest), "by ticks " + what)
+                same(ref.histogram_by_segments(*table, width, length),
+                     (counts, rest), "by segments " + what)
+                same(histogram_from_below(table, width, length),
+                     (counts, rest), "from below " + what)
+                same(sum(counts) + rest, H, "all ticks " + what)
+                kinds = [("an empty list", length == 0),
+                         ("none in the rest", rest == 0),
+                         ("all in the rest", rest == H and length > 0),
+                         ("both", 0 < rest < H),
+                         ("a delay at an end", length * width in delays),
+                         ("a delay before it", length * width - 1 in delays)]
+                for kind, is_met in kinds:
+                    met[kind] = met.get(kind, 0) + is_met
+        same(table, given, "the lists given stay")
+        # Entries from g on have no part in it.
+        width, length = rng.randint(1, 9), rng.randint(0, 30)
+        found = ref.histogram(starts[:g], latencies[:g], g, H, width, length)
+        for junk in (0, 1, starts[g - 1] + 1, starts[0] + H, 2 ** 64 - 1):
+            for more in (1, 5):
+                same(ref.histogram(starts[:g] + [junk] * more,
+                                   latencies[:g] + [junk] * more,
+                                   g, H, width, length), found,
+                     "entries from g on %r" % (table,))
+    for kind, count in met.items():
+        same(count > 100, True, "often met: " + kind)
+
+
+def group_histogram_small_tables(_rng):
+    """All tables with H up to 4 and latencies up to distance + 2."""
+    tables = 0
+    for H in (1, 2, 3, 4):
+        for cut in itertools.product((False, True), repeat=H - 1):
+            offsets = [0] + [r + 1 for r in range(H - 1) if cut[r]]
+            lengths = [end - begin for begin, end
+                       in zip(offsets, offsets[1:] + [H])]
+            for above in itertools.product((1, 2), repeat=len(offsets)):
+                latencies = [a + b for a, b in zip(lengths, above)]
+                for first in (0, 7):
+                    table = ([first + one for one in offsets], latencies,
+                             len(offsets), H)
+                    tables += 1
+                    delays = [delay_at_time(*table, first + r)
+                              for r in range(H)]
+                    for width in range(1, 9):
+                        for length in range(8):
+                            what = "%r width %d length %d" \
+                                % (table, width, length)
+                            expected = literal_histogram(delays, width,
+                                                         length)
+                            same(ref.histogram(*table, width, length),
+                                 ("ok", *expected), what)
+                            same(ref.histogram_by_segments(
+                                *table, width, length), expected, what)
+    # A tick is a start or not, and a start has 2 latencies: 2 times 3 for
+    # each tick more.  Each table comes with 2 first starts.
+    same(tables, 2 * (2 + 6 + 18 + 54), "tables")
+
+
+def check_histogram(table, width, length):
+    """A table of any size: other methods, and what they have in common."""
+    starts, latencies, g, H = table
+    what = "%r g %d H %d width %d length %d" % (starts[:3], g, H, width,
+                                                length)
+    word, counts, rest = ref.histogram(*table, width, length)
+    same((word, len(counts)), ("ok", length), what)
+    same((counts, rest), histogram_from_below(table, width, length), what)
+    same(ref.histogram_by_segments(*table, width, length), (counts, rest),
+         "by segments " + what)
+    if H <= 60_000:
+        same(ref.histogram_by_enumeration(*table, width, length),
+             (counts, rest), "by ticks " + what)
+    same(sum(counts) + rest, H, "all ticks " + what)
+    # A longer list takes its counts from the rest alone.
+    longer, less = ref.histogram_by_segments(*table, width, length + 3)
+    same((longer[:length], sum(longer[length:]) + less), (counts, rest),
+         "longer list " + what)
+    # Entries of twice the width hold two each.
+    halves, beyond = ref.histogram_by_segments(*table, width, 2 * length)
+    same(ref.histogram_by_segments(*table, 2 * width, length),
+         ([halves[2 * i] + halves[2 * i + 1] for i in range(length)],
+          beyond), "twice the width " + what)
+
+
+def group_histogram_large(rng):
+    """Both methods and a third, on both sides of the limit."""
+    # Many anchors, random ones, and tables that making gives.
+    tables = []
+    for H in (20_000, 20_001, 60_000_000):
+        g = 1_024
+        offsets = [0] + sorted(rng.sample(range(1, H), g - 1))
+        tables.append((offsets,
+                       [end - begin + rng.randint(1, 9_000) for begin, end
+                        in zip(offsets, offsets[1:] + [H])], g, H))
+    tables += [random_table(rng, 60_000) for _ in range(17)]
+    tables += [limit_table(rng) for _ in range(100)]
+    while len(tables) < 150:
+        tasks = large_chain(rng)
+        H = math.lcm(*[task[0] for task in tasks])
+        if H <= 300 * max(task[0] for task in tasks):
+            p = ref.longest_period_place(tasks)
+            made, starts, latencies = ref.make(tasks, wide_gap(rng), p,
+                                               [9] * 300, [9] * 300)
+            tables.append((starts, latencies, made[1], made[3]))
+    sides = set()
+    for table in tables:
+        starts, latencies, g, H = table
+        same(ref.well_formed(*table), True, "well-formed")
+        top = max(latencies[:g])
+        bottom = ref.low_by_segments(*table) + 1
+        sides.add(H > ref.ENUMERATION_LIMIT)
+        one = rng.choice(latencies[:g])
+        for width in rng.sample([1, one, one + 1, (one + 1) // 2,
+                                 top // 7 + 1, top // 90 + 1,
+                                 rng.randint(1, top), rng.choice(WIDE)], 3):
+            last = top // width
+            length = rng.choice([0, last, last + 1, rng.randint(0, 40)])
+            check_histogram(table, width, min(length, 100))
+        # The least and the greatest delay.
+        same(ref.histogram(*table, top + 1, 1), ("ok", [H], 0), "below all")
+        same(ref.histogram(*table, top, 1)[2],
+             sum(1 for latency in latencies[:g] if latency == top),
+             "the greatest delay")
+        same(ref.histogram(*table, bottom, 1), ("ok", [0], H), "above all")
+        same(ref.histogram(*table, bottom + 1, 1)[1][0] > 0, True,
+             "the least delay")
+        # The mean's sum: entry i of width 1 stands for the delay i.
+        if top < 100_000:
+            _ok, counts, rest = ref.histogram(*table, 1, top + 1)
+            same((sum(i * count for i, count in enumerate(counts)), rest),
+                 (ref.sum_by_segments(*table), 0), "sum of the delays")
+    same(len(sides), 2, "both sides of the limit")
+    # A long list, of which each segment meets many entries.
+    for table, width in zip(tables, (1, 2, 40)):
+        counts, rest = ref.histogram_by_segments(*table, width, 4_096)
+        same(ref.histogram(*table, width, 4_096), ("ok", counts, rest),
+             "a long list")
+        same(rest > 0, True, "a long list and a rest")
+        for i in [0, 4_095] + rng.sample(range(4_096), 60):
+            same(counts[i], ticks_below(table, (i + 1) * width)
+                 - ticks_below(table, i * width), "entry of a long list")
+        same(rest, table[3] - ticks_below(table, 4_096 * width),
+             "the rest of a long list")
+
+
+def group_histogram_of_walks(rng):
+    """The tables of chains against the walk, tick by tick from warm-up."""
+    chains = [(tasks, gap) for tasks in (CHAIN_A, CHAIN_B, CHAIN_C, CHAIN_D,
+                                         CHAIN_X, CHAIN_FOUR)
+              for gap in (0, 1, 7)]
+    for turn in range(150):
+        tasks = small_chain(rng, 60 if turn % 10 else 240)
+        gap = no_gap(rng) if turn % 3 == 0 else small_gap(rng, tasks)
+        chains.append((tasks, gap))
+    for tasks, gap in chains:
+        x0 = tasks[0][2] + literal_warm_up(tasks, gap)[0] * tasks[0][0]
+        H = literal_hyperperiod(tasks)
+        walked = [literal_delay(tasks, gap, x0 + r) for r in range(H)]
+        expected = {}
+        for width in (1, rng.randint(1, 12), rng.choice(walked),
+                      max(walked), max(walked) + 1):
+            for length in (0, 1, max(walked) // width,
+                           max(walked) // width + 1):
+                if length <= 200:
+                    expected[width, length] = literal_histogram(
+                        walked, width, length)
+        for p in range(1, len(tasks) + 1):
+            junk = [rng.randint(0, 99) for _ in range(H + 3)]
+            made, starts, latencies = ref.make(tasks, gap, p, junk, junk)
+            table = (starts, latencies, made[1], made[3])
+            for (width, length), counted in expected.items():
+                same(ref.histogram(*table, width, length), ("ok", *counted),
+                     "%r gap %d cut at %d, width %d, length %d"
+                     % (tasks, gap, p, width, length))
+
+
+def group_histogram_refusals(rng):
+    lengths = (0, 1, 2, 19, 4_096)
+    widths = (0, 1, 18, 2 ** 63, 2 ** 64 - 1)
+    # 18 for the width alone, on both sides of the limit.
+    tables = [TABLE_A, ([0], [2], 1, 1), ([0], [20_001], 1, 20_000),
+              ([0], [20_002], 1, 20_001),
+              ([1_000_000_000], [60_011_000], 1, 60_000_000)]
+    tables += [random_table(rng, 50) for _ in range(100)]
+    tables += [limit_table(rng) for _ in range(100)]
+    for table in tables:
+        starts, latencies, g, H = table
+        for length in lengths:
+            same(ref.histogram(*table, 0, length), ("refused", 18, 0),
+                 "width 0, length %d" % length)
+            same(ref.histogram(*table, 60_011_001, length)[0], "ok",
+                 "length %d" % length)
+        # 14 first, for each thing that may be wrong with a table.
+        index = rng.randrange(g)
+        wrong = [(starts + [0], latencies, g, H),
+                 (starts, latencies + [0], g, H),
+                 (starts, latencies, 0, H),
+                 (starts, latencies, len(starts) + 1, H),
+                 (starts, latencies, g, 0),
+                 (starts, latencies, g, 60_000_001),
+                 (starts, latencies, g, starts[g - 1] - starts[0]),
+                 ([one + 1_000_000_001 for one in starts], latencies, g, H),
+                 (starts[:index] + [starts[index]] + starts[index:g],
+                  latencies[:index + 1] + latencies[index:g], g + 1, H)]
+        for latency in (0, ref.distance_to_next(starts, g, H, index),
+                        60_011_001, 2 ** 64 - 1):
+            wrong.append((starts, latencies[:index] + [latency]
+                          + latencies[index + 1:], g, H))
+        for faulty in wrong:
+            for width in widths:
+                for length in (0, 3):
+                    same(ref.histogram(*faulty, width, length),
+                         ("refused", 14, 0),
+                         "%r width %d" % (faulty, width))
+
+
 GROUPS = [
     ("survey example A", group_survey_a),
     ("survey examples B to E", group_survey_b_to_e),
@@ -3773,6 +4203,12 @@ GROUPS = [
     ("sections, large values", group_sections_large),
     ("refusals of sections", group_section_refusals),
     ("sections by chain number", group_sections_of_schedules),
+    ("how often each delay occurs by hand", group_histogram_by_hand),
+    ("how often each delay occurs", group_histogram),
+    ("how often, all small tables", group_histogram_small_tables),
+    ("how often, large values", group_histogram_large),
+    ("how often along the walk", group_histogram_of_walks),
+    ("refusals of how often", group_histogram_refusals),
 ]
 
 
