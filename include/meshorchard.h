@@ -4,7 +4,7 @@
  * All times are whole ticks; a tick is 1 microsecond. The calls keep nothing, allocate nothing and always return. They answer for any
  * values: none of the arguments has to be checked first.
  *
- * Lists and numbers are lent for the time of a call. A list is a pointer and the number of its entries; only mo_make_table,
+ * Lists and numbers are lent for the time of a call. A list is a pointer and the number of its entries; only mo_make_table, mo_histogram,
  * mo_write_file and mo_report write to lists. A number that a call gives is lent as a pointer, several of them as an array that the call writes whole.
  * No pointer may be null, also that of a list of 0 entries, and each must point to as many entries as are named. The numbers, arrays and
  * lists that a call writes lie apart from each other and from all else that is lent to it: the compiled code counts on that, so where they
@@ -13,6 +13,7 @@
  * Archives, each made by `rt staticlib NAME`; they can be linked together:
  *   libtable.a          mo_read_table
  *   libcapi_figures.a   mo_greatest, mo_low, mo_mean, mo_throughput, mo_exceedance
+ *   libcapi_histogram.a mo_histogram
  *   libcapi_timing.a    mo_check, mo_warm_up, mo_delay, mo_age
  *   libcapi_maker.a     mo_make_table
  *   libcapi_windows.a   mo_windows
@@ -20,15 +21,16 @@
  *   libcapi_file.a      mo_read_file, mo_write_file, mo_chain_of_schedule
  *   libcapi_bookings.a  mo_bookings
  *   libcapi_report.a    mo_report
- * libcapi_file.a, libcapi_bookings.a and libcapi_report.a need memcpy and memset from the C library, libcapi_maker.a, libcapi_windows.a
- * and libcapi_sections.a memset; the other three need nothing (`nm -u` on an archive tells; tests/c/run looks).
+ * libcapi_file.a, libcapi_bookings.a and libcapi_report.a need memcpy and memset from the C library, libcapi_maker.a, libcapi_windows.a,
+ * libcapi_sections.a and libcapi_histogram.a memset; the other three need nothing (`nm -u` on an archive tells; tests/c/run looks).
  *
  * The archives are for x86-64, in position-independent code that uses its SSE2 registers. The toolchain compiles for no other processor
  * today: the proofs say nothing of a processor, and the back end that turns proved code into machine code has this one target. On an
  * instrument with another processor the calls wait for such a back end; until then they serve hosts, which may work the table out and
  * hand the instrument its anchors.
  *
- * Time. mo_read_table and the figures take one to three passes over the g anchors; mo_check, mo_warm_up, mo_delay and mo_age a few over the
+ * Time. mo_read_table and the figures take one to three passes over the g anchors; mo_histogram two over the anchors and two over its list,
+ * with two divisions for each anchor, however wide the entries are and however long h is; mo_check, mo_warm_up, mo_delay and mo_age a few over the
  * places; the calls on files one over the bytes.
  * mo_make_table walks h / T partitions, T being the period at the place of the cut, and a partition costs each place once: with h 60,000,000
  * and twelve places 0.015 ms where the longest period, 78,125, is cut at, and 0.9 s at a place of period 1. Cut at the longest period no
@@ -64,6 +66,7 @@ extern "C" {
 #define MO_STACK_MAKE_TABLE 832u
 #define MO_STACK_READ_TABLE 128u
 #define MO_STACK_FIGURES 128u /* each of mo_greatest, mo_low, mo_mean, mo_throughput and mo_exceedance */
+#define MO_STACK_HISTOGRAM 128u
 #define MO_STACK_WINDOWS 1216u
 #define MO_STACK_SECTIONS 1024u
 #define MO_STACK_READ_FILE 3136u
@@ -73,7 +76,7 @@ extern "C" {
 #define MO_STACK_REPORT 22848u
 
 /*
- * Refusals: the numbers of document 01, and 16 and 17 of orders 1 and 6 in document 02; order 5 there adds the gap to 5.
+ * Refusals: the numbers of document 01, and 16, 17 and 18 of orders 1, 6 and 7 in document 02; order 5 there adds the gap to 5.
  */
 #define MO_FILE_ENDS_EARLY 1u          /* reading a file: fewer than 4 bytes remain, or a record runs past the file */
 #define MO_RECORD_LENGTH_WRONG 2u      /* reading a file: a length below 4, or one that its kind does not have */
@@ -92,6 +95,7 @@ extern "C" {
 #define MO_WINDOW_OUTSIDE_LIMITS 15u   /* windows: k is not 1 to 100 */
 #define MO_CHAIN_UNKNOWN 16u           /* a schedule: it has no chain of that number; they count from 1 */
 #define MO_CUTS_NOT_RISING 17u         /* sections: the cuts do not rise strictly, or one is not 1 to places - 1 */
+#define MO_WIDTH_ZERO 18u              /* histogram: the width is 0 */
 
 /*
  * Every call but mo_read_table and mo_report answers a code: 0 for a success, else a refusal's number and 256 times its place. The place is
@@ -179,6 +183,22 @@ uint64_t mo_throughput(const uint64_t *starts, size_t starts_length,
 uint64_t mo_exceedance(const uint64_t *starts, size_t starts_length,
                        const uint64_t *latencies, size_t latencies_length,
                        uint64_t g, uint64_t h, uint64_t b, uint64_t *run, uint64_t *endless);
+
+/*
+ * How often each delay occurs in one hyperperiod of h ticks: counts[i] becomes the number of ticks with a delay from i * width up to below
+ * (i + 1) * width, and rest the number of ticks with a delay from counts_length * width on, so that all of them come to h. Every entry is
+ * written, with 0 where there is no such delay. The products are meant without end of numbers: width may be any number but 0, and with one
+ * above every delay counts[0] is h. With a list of mo_greatest's latency / width + 1 entries rest is 0. The list may be empty: rest is then
+ * h; counts points somewhere all the same. Of a table from mo_make_table these are the delays of mo_delay at the h ticks from the warm-up tick
+ * on, or from any later tick. That is proved (crates/histogram, crates/capi_agreement).
+ *
+ * Refuses, the first that applies, both at place 0, with the list as it was and 0 in rest:
+ *   MO_TABLE_NOT_WELL_FORMED   the table is not well-formed;
+ *   MO_WIDTH_ZERO              width is 0.
+ */
+uint64_t mo_histogram(const uint64_t *starts, size_t starts_length,
+                      const uint64_t *latencies, size_t latencies_length,
+                      uint64_t g, uint64_t h, uint64_t width, uint64_t *counts, size_t counts_length, uint64_t *rest);
 
 /* ---- Chains ----
  *

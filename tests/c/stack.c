@@ -36,7 +36,7 @@ static size_t depth(void (*f)(void))
 /* ---- what the calls are given: twelve places, long numbers, and every way that ends late */
 
 static uint64_t tasks[36], flat[36], numbered[128], chains[48], places[4], jobs[12], counts[3], figures[4], both[4];
-static uint64_t starts[1024], latencies[1024];
+static uint64_t starts[1024], latencies[1024], many[1024];
 static uint64_t a, b;
 /* The longest gap, so that a file has its record and every link waits. */
 static const uint64_t gap = 1000;
@@ -93,6 +93,7 @@ static void greatest(void) { mo_greatest(starts, 1024, latencies, 1024, figures[
 static void low(void) { mo_low(starts, 1024, latencies, 1024, figures[0], figures[2], &a); }
 static void mean(void) { mo_mean(starts, 1024, latencies, 1024, figures[0], figures[2], &a, &b); }
 static void throughput(void) { mo_throughput(starts, 1024, latencies, 1024, figures[0], figures[2], &a, &b); }
+static void histogram(void) { mo_histogram(starts, 1024, latencies, 1024, figures[0], figures[2], 50000, many, 1024, &a); }
 static void exceedance(void) { mo_exceedance(starts, 1024, latencies, 1024, figures[0], figures[2], 48000000, &a, &b); }
 /* A bound that some jobs miss and no 100 in a row, so that the call looks twice. */
 static void windows(void) { mo_windows(tasks, 36, 12, gap, 48235600, 100, &a, &b); }
@@ -136,6 +137,8 @@ int main(void)
     held("mo_mean", mean, MO_STACK_FIGURES);
     held("mo_throughput", throughput, MO_STACK_FIGURES);
     held("mo_exceedance", exceedance, MO_STACK_FIGURES);
+    held("mo_histogram", histogram, MO_STACK_HISTOGRAM);
+    expect("some delays in the list, and some beyond it or none", many[0] == 0 && a < 60000000, 1);
     held("mo_windows", windows, MO_STACK_WINDOWS);
     expect("some jobs miss, and no 100 in a row", a > 0 && a < 100, 1);
     held("mo_sections", sections, MO_STACK_SECTIONS);

@@ -28,7 +28,7 @@ module _ (H : ℕ) (l : List Anchor) (formed : Formed H l) (delay : ℕ → ℕ)
   again : (test : ℕ → Bool) (u : ℕ) → firstStart l ≤ u → one (test (delayAt H l (u + H))) ≡ one (test (delayAt H l u))
   again test u k = ap (λ (x : ℕ). one (test x)) (ap (delayAt H l) {x = u + H} {y = u + 1 * H} (omega arith) ∙ delay-again H l formed u 1 k)
 
-  count-anywhere : (test : ℕ → Bool) → count test (delayAt H l) (firstStart l) H ≡ count test delay t H
+  pub count-anywhere : (test : ℕ → Bool) → count test (delayAt H l) (firstStart l) H ≡ count test delay t H
   count-anywhere test =
       let e : firstStart l + (t - firstStart l) ≡ t = omega arith in
       sym (rw e at (total-round (λ u. one (test (delayAt H l u))) H (firstStart l) (t - firstStart l) (again test)))

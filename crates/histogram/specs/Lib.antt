@@ -3,3 +3,4 @@ pub mod Counting
 pub mod Marking
 pub mod Entries
 pub mod EveryHyperperiod
+pub mod Reach

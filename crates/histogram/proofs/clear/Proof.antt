@@ -27,10 +27,10 @@ add-i : tie.Need-add-i Inv-loop μ-loop
 add-i c = search needs
 
 loop-less : tie.Need-loop-less Inv-loop μ-loop
-loop-less c = let l = c .before .loop in omega (arith, length-set (l .counts) (l .i) 0)
+loop-less c = rw length-set (omega arith)
 
 loop-again : tie.Need-loop-again Inv-loop μ-loop
-loop-again c = let l = c .before .loop in written-more _ _ _ _ (l .inv) (c .loop-test .taken) 0 refl
+loop-again c = let l = c .before .loop in written-more _ _ _ _ (l .inv) (c .loop-test .taken) _ refl
 
 same-length : tie.Need-same-length Inv-loop μ-loop
 same-length c = search needs

@@ -20,7 +20,7 @@ returns : tie.Need-returns
 returns c = not-formed _ _ _ _ _ _ (sym (c .before .is-well-formed .ensures) ∙ not-true (c .before .is-well-formed .result) (c .if1 .taken))
 
 returns-2 : tie.Need-returns-2
-returns-2 c = no-width _ _ _ _ _ _ (formed (c .before)) (c .if2 .taken)
+returns-2 c = no-width _ _ _ _ _ _ (formed (c .before)) (omega (arith, c .if2 .taken))
 
 clear-requires : tie.Need-clear-requires
 clear-requires c κs = search needs
