@@ -420,6 +420,95 @@ def damaged_tables(ours, r, factor, compare):
     compare.must_meet(inputs.MOST_LATENCY + 1)
 
 
+def compare_histogram(ours, r, table, width, length, compare):
+    """One list of counts, which held rubbish: every entry and the rest are the reference's, and with them the ticks of a hyperperiod."""
+    held = [inputs.any_number(r)] * length
+    mine, theirs = ours.histogram(proved.Table(*table), width, held), reference.histogram(*table, width, length)
+    compare.same(mine, theirs, "histogram", table, width, length)
+    compare.meet(theirs)
+    if theirs[0] == "ok":
+        compare.same(sum(mine[1]) + mine[2], table[3], "all ticks", table, width, length)
+        compare.note("empty list" if length == 0 else "all in the list" if theirs[2] == 0 else "all beyond" if theirs[2] == table[3] else "some beyond")
+        if any(theirs[1]) and len(theirs[1]) > 1 and theirs[1][-1] and not theirs[2]:
+            compare.note("just long enough")
+
+
+def compare_histograms(ours, r, anchors, most, compare):
+    """A well-formed table with rubbish past its anchors: several widths, with lists that are empty, short, just long enough and long."""
+    starts, latencies, h = anchors
+    table = (*inputs.with_rest(r, starts, latencies), len(starts), h)
+    for width in inputs.widths(r, latencies, h, most):
+        for length in inputs.lengths(r, max(latencies), width, 2):
+            compare_histogram(ours, r, table, width, length, compare)
+
+
+LISTS = ("empty list", "all in the list", "some beyond", "all beyond", "just long enough")
+
+
+@group
+def histograms(ours, r, factor, compare):
+    """how often each delay occurs: short tables, tables of every number of anchors from 1 to 1,024, long ones"""
+    for _ in range(int(800 * factor)):
+        compare_histograms(ours, r, inputs.small_table(r), 12, compare)
+    compare.must_meet("ok", *LISTS)
+    for g in range(1, 1025):
+        anchors = inputs.close_table(r, g)
+        compare.same(len(anchors[0]), g, "anchors", anchors)
+        compare_histograms(ours, r, anchors, 2, compare)
+        compare_histogram(ours, r, (anchors[0], anchors[1], g, anchors[2]), r.randint(1, 3), inputs.MOST_ENTRIES, compare)
+    compare.must_meet("ok", *LISTS)
+    for _ in range(int(60 * factor)):
+        compare_histograms(ours, r, inputs.middle_table(r), 4, compare)
+    for _ in range(int(60 * factor)):
+        compare_histograms(ours, r, inputs.large_table(r), 5, compare)
+    compare.must_meet("ok", *LISTS)
+
+
+@group
+def histograms_of_chains(ours, r, factor, compare):
+    """how often each delay occurs: tables that were made, against the delays of walking at each tick of a hyperperiod, from the warm-up tick and from a later one"""
+    made = 0
+    while made < int(600 * factor):
+        tasks, gap = inputs.linked(r, inputs.cut_chain(r))
+        numbers, warm = lent(r, tasks), reference.warm_up(tasks, gap)
+        if warm[0] != "ok" or warm[3] > 400:
+            continue
+        made += 1
+        note_links(tasks, gap, warm, compare)
+        _, _, x0, h = warm
+        answer, starts, latencies = ours.make(numbers, len(tasks), gap, r.randint(1, len(tasks)), [0] * 400, [0] * 400)
+        compare.same(answer[::3], ("ok", h), "making", tasks, gap)
+        table = proved.Table(starts, latencies, answer[1], h)
+        from_tick = x0 + r.choice([0, 1, r.randint(0, 3 * h)])
+        delays = [reference.delay(tasks, gap, t)[1] for t in range(from_tick, from_tick + h)]
+        for width in inputs.widths(r, latencies[:answer[1]], h, 4):
+            for length in inputs.lengths(r, max(delays), width, 2):
+                counted = [sum(i * width <= delay < (i + 1) * width for delay in delays) for i in range(min(length, max(delays) // width + 1))]
+                walked = ("ok", counted + [0] * (length - len(counted)), sum(delay >= length * width for delay in delays))
+                compare.same(ours.histogram(table, width, [7] * length), walked, "histogram of a chain", tasks, gap, width, length)
+                compare.meet(walked)
+    compare.must_meet("ok", *LINKS)
+
+
+@group
+def histograms_refused(ours, r, factor, compare):
+    """how often each delay occurs, refused: tables with one fault, with a width of 0 too, and a width of 0 for a table without"""
+    for damaged in inputs.DAMAGES:
+        for _ in range(int(300 * factor)):
+            table, length = damaged(r), r.choice([0, 1, 5, 60])
+            compare_histogram(ours, r, table, 0, length, compare)
+            compare_histogram(ours, r, table, r.choice([1, 2**64 - 1, inputs.any_number(r)]), length, compare)
+            compare.same(reference.histogram(*table, 0, length), ("refused", 14, 0), damaged.__name__, table)
+    compare.same({"ok", 18} & set(compare.met), set(), "damaged tables that pass")
+    compare.must_meet(14)
+    for _ in range(int(600 * factor)):
+        starts, latencies, h = r.choice([inputs.small_table, inputs.small_table, inputs.middle_table, inputs.large_table])(r)
+        table = (*inputs.with_rest(r, starts, latencies), len(starts), h)
+        compare_histogram(ours, r, table, 0, r.choice([0, 1, 5, 60, inputs.MOST_ENTRIES]), compare)
+        compare.same(reference.histogram(*table, 0, 1), ("refused", 18, 0), "width 0", table)
+    compare.must_meet(18)
+
+
 # ---- Schedules and their files
 
 def told(schedule):

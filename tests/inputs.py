@@ -311,6 +311,32 @@ def bounds(r, latencies, low, most):
 
 
 
+# The most entries that a list of counts has here.
+MOST_ENTRIES = 4096
+
+
+def widths(r, latencies, h, most):
+    """Widths of the entries of a histogram: the least, at and around the latencies and their parts, H, at the limits, and at the ends of 64 bits; `most` of them where there are more."""
+    some = [latency // part + step for latency in r.sample(latencies, min(4, len(latencies))) for part in (1, 2, 3, 10) for step in (-1, 0, 1)]
+    ends = [1, 2, 3, h, h + 1, MOST_LATENCY, MOST_LATENCY + 1, MOST_LATENCY + 2, 2**32 - 1, 2**32, 2**32 + 1, 2**63, LARGEST]
+    every = within([*some, *ends, r.randint(1, MOST_LATENCY), r.randint(1, LARGEST), r.randint(1, 50), r.randint(1, 5000)])
+    return [width for width in r.sample(every, min(most, len(every))) if width > 0]
+
+
+def lengths(r, top, width, most):
+    """Lengths of a list: none, few, many, and such that the entry of the greatest delay is the last of the list, or lies just past it; `most` of them."""
+    reaching = [n for n in (top // width - 1, top // width, top // width + 1, top // width + 2) if 0 <= n <= MOST_ENTRIES]
+    return [*r.sample([0, 1, 2, 3, 64, r.randint(0, 200), r.randint(0, MOST_ENTRIES), MOST_ENTRIES], most), *r.sample(reaching, min(most, len(reaching)))]
+
+
+def close_table(r, g):
+    """A table of so many anchors in few ticks, with latencies of a few thousand, which a long list of narrow entries holds."""
+    h = g + r.choice([0, 1, r.randint(0, 30), r.randint(0, 3 * g)])
+    starts, latencies, h = spread_table(r, g, h, first_start(r))
+    top = r.choice([5, 300, 5000])
+    return starts, [distance(starts, h, i) + r.randint(1, top) for i in range(g)], h
+
+
 def cut_chain(r):
     """A chain whose hyperperiod holds few enough jobs that every cut can be walked by definition."""
     while True:

@@ -99,6 +99,17 @@ def exceedance(table, bound):
     return answer if answer[0] != "ok" else ("ok", "endless" if answer[2] else answer[1])
 
 
+def histogram(table, width, held):
+    """The counts of a list that held these numbers, and the rest. A refusal must leave the list, and no call may write past it or to the table."""
+    given = Table(array("Q", table.starts), array("Q", table.latencies), table.anchors, table.hyperperiod)
+    memory = array("Q", [*held, *FENCE])
+    answer = answered(calls.histogram, given, width, memoryview(memory)[:len(held)])
+    counts = memory[:len(held)].tolist()
+    if memory[len(held):].tolist() != [*FENCE] or (given.starts, given.latencies) != (array("Q", table.starts), array("Q", table.latencies)) or answer[0] == "refused" and counts != [*held]:
+        return ("changed", answer, memory)
+    return ("ok", counts, answer[1]) if answer[0] == "ok" else answer
+
+
 # The calls on schedules and their files.
 
 def lent(schedule):
