@@ -23,6 +23,7 @@ const RUBBISH: u64 = 0xDEAD_BEEF;
 pub enum Call {
     Make { chain: Chain, p: usize, slots: usize },
     Read { table: Table, ticks: Vec<u64> },
+    Histogram { table: Table, width: u64, entries: usize },
     Delay { chain: Chain, ticks: Vec<u64> },
     Age { chain: Chain, ticks: Vec<u64> },
     Windows { chain: Chain, b: u64, k: u64 },
@@ -99,20 +100,47 @@ fn making(kind: &str, periods: &[u64], gap: u64) -> Case {
     }
 }
 
-fn reading(g: usize) -> Case {
-    let h = 122_880;
+/// A table of g anchors that are about equally far apart.
+fn table_of(g: usize, h: u64, draws: &mut Draws) -> Table {
     let step = h / g as u64;
-    let mut draws = Draws(g as u64);
     let starts: Vec<u64> = (0..g as u64).map(|i| 7 + i * step + if i == 0 { 0 } else { draws.below(step / 2) }).collect();
     let ends = starts[1..].iter().copied().chain([7 + h]);
     let latencies = starts.iter().zip(ends).map(|(start, end)| end - start + 1 + draws.below(5000)).collect();
+    Table { starts, latencies, h }
+}
+
+fn anchors_text(g: usize) -> String {
+    if g == 1 {
+        "1 anchor".to_string()
+    } else {
+        format!("{g} anchors")
+    }
+}
+
+fn reading(g: usize) -> Case {
+    let h = 122_880;
+    let mut draws = Draws(g as u64);
+    let table = table_of(g, h, &mut draws);
     let ticks = (0..TICKS).map(|_| 7 + draws.below(LATEST)).collect();
     Case {
         group: "reading",
-        name: if g == 1 { "1 anchor".to_string() } else { format!("{g} anchors") },
-        call: Call::Read { table: Table { starts, latencies, h }, ticks },
+        name: anchors_text(g),
+        call: Call::Read { table, ticks },
         enumerating: h * TICKS as u64 / 2,
         work: (g * TICKS) as u64,
+    }
+}
+
+/// A list that just holds every delay.
+fn counting(g: usize, h: u64, entries: usize) -> Case {
+    let table = table_of(g, h, &mut Draws(g as u64));
+    let width = table.latencies.iter().max().unwrap() / entries as u64 + 1;
+    Case {
+        group: "histogram",
+        name: format!("{}, H {h}, {entries} {}, width {width}", anchors_text(g), if entries == 1 { "entry" } else { "entries" }),
+        call: Call::Histogram { table, width, entries },
+        enumerating: h,
+        work: (g * entries) as u64,
     }
 }
 
@@ -246,6 +274,10 @@ pub fn all() -> Vec<Case> {
     cases.push(making("published", &published, GAP_LIMIT));
     cases.push(making("co-prime", coprime[4], 37));
     cases.extend([1, 4, 16, 64, 256, 1024].iter().map(|&g| reading(g)));
+    for (g, entries) in [(1, 1), (1, 64), (16, 4), (16, 64), (16, 4096), (256, 64), (1024, 1), (1024, 4), (1024, 16), (1024, 64), (1024, 512), (1024, 4096)] {
+        cases.push(counting(g, 122_880, entries));
+    }
+    cases.push(counting(1024, 60_000_000, 4096));
     for group in ["delay", "age"] {
         cases.extend([2, 4, 8, 12].iter().map(|&n| walking(group, "harmonic", &doubling(250, n), 0)));
         cases.push(walking(group, "published", &published, 0));
@@ -283,16 +315,18 @@ pub fn all() -> Vec<Case> {
     cases
 }
 
-/// The lists that making writes to; they stay from call to call.
+/// The lists that making and histograms write to; they stay from call to call.
 pub struct Lists {
     starts: Vec<u64>,
     latencies: Vec<u64>,
+    counts: Vec<u64>,
 }
 
 impl Lists {
     pub fn of(case: &Case) -> Self {
         let slots = if let Call::Make { slots, .. } = case.call { slots } else { 0 };
-        Lists { starts: vec![RUBBISH; slots], latencies: vec![RUBBISH; slots] }
+        let entries = if let Call::Histogram { entries, .. } = case.call { entries } else { 0 };
+        Lists { starts: vec![RUBBISH; slots], latencies: vec![RUBBISH; slots], counts: vec![RUBBISH; entries] }
     }
 }
 
@@ -309,6 +343,17 @@ fn repeat_making<P: Program>(chain: &Chain, p: usize, lists: &mut Lists, repeats
         let mut figures = [0; 4];
         let code = P::make(black_box(chain), p, &mut lists.starts, &mut lists.latencies, &mut figures);
         digest = figures.iter().fold(mix(digest, code), |digest, &figure| mix(digest, figure));
+    }
+    digest
+}
+
+#[inline(never)]
+fn repeat_histogram<P: Program>(table: &Table, width: u64, lists: &mut Lists, repeats: usize) -> u64 {
+    let mut digest = 0;
+    for _ in 0..repeats {
+        let mut rest = 0;
+        let code = P::histogram(black_box(table), width, &mut lists.counts, &mut rest);
+        digest = mix(mix(digest, code), rest);
     }
     digest
 }
@@ -356,6 +401,7 @@ pub fn repeat<P: Program>(case: &Case, lists: &mut Lists, repeats: usize) -> u64
                 digest = mix(digest, P::read(black_box(table), ticks[i % TICKS]));
             }
         }
+        Call::Histogram { table, width, .. } => digest = repeat_histogram::<P>(table, *width, lists, repeats),
         Call::Delay { chain, ticks } => {
             for i in 0..repeats {
                 let mut out = 0;
@@ -390,6 +436,13 @@ pub fn answers<P: Program>(case: &Case) -> Vec<u64> {
             all.extend(lists.latencies);
         }
         Call::Read { table, ticks } => all.extend(ticks.iter().map(|&t| P::read(table, t))),
+        Call::Histogram { table, width, .. } => {
+            let mut lists = Lists::of(case);
+            let mut rest = RUBBISH;
+            all.push(P::histogram(table, *width, &mut lists.counts, &mut rest));
+            all.push(rest);
+            all.extend(lists.counts);
+        }
         Call::Delay { chain, ticks } => {
             for &t in ticks {
                 let mut out = RUBBISH;
@@ -435,7 +488,7 @@ pub fn digest(answers: &[u64]) -> u64 {
 /// Whether an answer is a refusal. Every case is meant to be accepted.
 pub fn refuses(case: &Case, answers: &[u64]) -> bool {
     match case.call {
-        Call::Make { .. } | Call::Windows { .. } | Call::Sections { .. } => answers[0] != 0,
+        Call::Make { .. } | Call::Histogram { .. } | Call::Windows { .. } | Call::Sections { .. } => answers[0] != 0,
         Call::Read { .. } => answers.iter().any(|&answer| REFUSED <= answer),
         Call::Delay { .. } | Call::Age { .. } => answers.chunks(2).any(|pair| pair[0] != 0),
         Call::Bookings { .. } => answers.chunks(5).any(|five| five[0] != 0),

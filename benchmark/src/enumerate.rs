@@ -1,6 +1,7 @@
 //! The same answers by enumerating ticks, to measure against. The checks are the plain program's.
 use plain::bookings::{check_pair, Bookings};
 use plain::chain::{check, forward};
+use plain::histogram;
 use plain::maker::{Figures, Made};
 use plain::schedule::Schedule;
 use plain::sections::{section_latencies_by, Sections};
@@ -144,6 +145,19 @@ pub fn read_at(starts: &[u64], latencies: &[u64], g: usize, h: u64, t: u64) -> R
         }
     }
     Ok(delay)
+}
+
+/// Every tick of a hyperperiod, one after another.
+pub fn histogram(starts: &[u64], latencies: &[u64], g: usize, h: u64, width: u64, counts: &mut [u64]) -> Result<u64, Refusal> {
+    histogram::check(starts, latencies, g, h, width)?;
+    counts.fill(0);
+    let mut rest = 0;
+    for (latency, d) in histogram::ranges(starts, latencies, g, h) {
+        for delay in latency + 1 - d..=latency {
+            *counts.get_mut((delay / width) as usize).unwrap_or(&mut rest) += 1;
+        }
+    }
+    Ok(rest)
 }
 
 /// Every job from tick to tick, and every window counted anew.

@@ -3,7 +3,7 @@
 //!     bench [--quick] [--forms] [--instructions] [--no-divider]
 //!
 //! Every program's answers are compared with the proved one's: in full before anything is measured, and by a digest with every sample. The digest
-//! of making has its code and figures, not its lists.
+//! of making has its code and figures, that of a histogram its code and rest, not their lists.
 //! With --no-divider the executable beside this one with `-no-divider` in its name is counted too: the same programs, with each division by a loop.
 //! The last line is 'N passed, M failed': two programs that answer a case alike are one pass.
 mod cases;
@@ -11,7 +11,7 @@ mod enumerate;
 mod programs;
 
 use cases::{Case, Lists};
-use programs::{ByValue, Dividing, Enumerating, Flat, Plain, Proved};
+use programs::{ByEntries, ByValue, Dividing, Enumerating, Flat, Plain, Proved};
 use std::path::{Path, PathBuf};
 use std::process::Command;
 
@@ -30,7 +30,8 @@ const DIVIDING: Measured = Measured { name: "dividing", repeat: cases::repeat::<
 const ENUMERATING: Measured = Measured { name: "enumerating", repeat: cases::repeat::<Enumerating>, answers: cases::answers::<Enumerating> };
 const BY_VALUE: Measured = Measured { name: "by value", repeat: cases::repeat::<ByValue>, answers: cases::answers::<ByValue> };
 const FLAT: Measured = Measured { name: "flat", repeat: cases::repeat::<Flat>, answers: cases::answers::<Flat> };
-const EVERY: [&Measured; 6] = [&PROVED, &PLAIN, &BY_VALUE, &FLAT, &DIVIDING, &ENUMERATING];
+const BY_ENTRIES: Measured = Measured { name: "by entries", repeat: cases::repeat::<ByEntries>, answers: cases::answers::<ByEntries> };
+const EVERY: [&Measured; 7] = [&PROVED, &PLAIN, &BY_VALUE, &FLAT, &DIVIDING, &BY_ENTRIES, &ENUMERATING];
 /// What is counted without a divider.
 const WITHOUT: [&Measured; 3] = [&PROVED, &PLAIN, &DIVIDING];
 
@@ -233,11 +234,15 @@ fn main() {
     let mut group = "";
     for (index, case) in cases::all().iter().enumerate().filter(|(_, case)| case.work <= limits.work) {
         let making = case.group == "making";
+        // The other way to the same answers that a group is measured against too, with the head of its column.
+        let other = match case.group {
+            "making" => Some((&DIVIDING, "proved/dividing")),
+            "histogram" => Some((&BY_ENTRIES, "proved/by entries")),
+            _ => None,
+        };
         let mut programs = vec![&PROVED, &PLAIN];
-        if making {
-            programs.push(&DIVIDING);
-        }
-        if formed && !["reading", "sections", "bookings"].contains(&case.group) {
+        programs.extend(other.map(|(program, _)| program));
+        if formed && !["reading", "histogram", "sections", "bookings"].contains(&case.group) {
             programs.extend([&BY_VALUE, &FLAT]);
         }
         if case.enumerating <= limits.enumerating {
@@ -246,17 +251,15 @@ fn main() {
         if group != case.group {
             group = case.group;
             let mut head = vec![group, "proved", "plain", "proved/plain", "lowest to highest"];
-            if making {
-                head.push("proved/dividing");
-            }
+            head.extend(other.map(|(_, column)| column));
             head.push("enum/proved");
             if formed {
                 head.extend(["by value/plain", "flat/plain"]);
             }
             if counting {
                 head.extend(["instr proved", "instr plain", "proved/plain"]);
-                if making {
-                    head.extend(["instr dividing", "proved/dividing"]);
+                if let Some((_, column)) = other {
+                    head.extend(["instr other", column]);
                 }
                 if formed {
                     head.extend(["by value/plain", "flat/plain"]);
@@ -297,9 +300,7 @@ fn main() {
             let time = |program: &Measured| programs.iter().position(|one| one.name == program.name).map(|at| &times[at]);
             time(above).zip(time(below)).map_or("-".to_string(), |(above, below)| ratio_text(median(&ratios(above, below))))
         };
-        if making {
-            row.push(of(&PROVED, &DIVIDING));
-        }
+        row.extend(other.map(|(program, _)| of(&PROVED, program)));
         row.push(of(&ENUMERATING, &PROVED));
         if formed {
             row.extend([of(&BY_VALUE, &PLAIN), of(&FLAT, &PLAIN)]);
@@ -310,9 +311,9 @@ fn main() {
             let count = |program: &Measured| programs.iter().any(|one| one.name == program.name).then(|| instructions(&own, program, index, case)).flatten();
             let (proved, plain) = (count(&PROVED), count(&PLAIN));
             row.extend([number(proved), number(plain), ratio(proved, plain)]);
-            if making {
-                let dividing = count(&DIVIDING);
-                row.extend([number(dividing), ratio(proved, dividing)]);
+            if let Some((program, _)) = other {
+                let counted = count(program);
+                row.extend([number(counted), ratio(proved, counted)]);
             }
             if formed {
                 row.extend([ratio(count(&BY_VALUE), plain), ratio(count(&FLAT), plain)]);

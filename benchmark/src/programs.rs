@@ -1,6 +1,6 @@
 //! The programs that are measured, under one interface: the one of the calls for C.
 use crate::enumerate;
-use forms::{by_value, flat};
+use forms::{by_entries, by_value, flat};
 use plain::bookings::Bookings;
 use plain::maker::Made;
 use plain::sections::Sections;
@@ -33,6 +33,8 @@ pub struct Schedule {
 pub trait Program {
     fn make(chain: &Chain, p: usize, starts: &mut [u64], latencies: &mut [u64], figures: &mut [u64; 4]) -> u64;
     fn read(table: &Table, t: u64) -> u64;
+    /// The rest; the counts are left in the list.
+    fn histogram(table: &Table, width: u64, counts: &mut [u64], rest: &mut u64) -> u64;
     fn delay(chain: &Chain, t: u64, out: &mut u64) -> u64;
     fn age(chain: &Chain, z: u64, out: &mut u64) -> u64;
     fn windows(chain: &Chain, b: u64, k: u64, out: &mut [u64; 2]) -> u64;
@@ -96,6 +98,9 @@ pub struct Proved;
 mod c {
     extern "C" {
         pub fn mo_read_table(starts: *const u64, n: usize, latencies: *const u64, m: usize, g: u64, h: u64, t: u64) -> u64;
+        pub fn mo_histogram(
+            starts: *const u64, n: usize, latencies: *const u64, m: usize, g: u64, h: u64, width: u64, counts: *mut u64, counts_length: usize, rest: *mut u64,
+        ) -> u64;
         pub fn mo_delay(tasks: *const u64, length: usize, places: usize, gap: u64, t: u64, delay: *mut u64) -> u64;
         pub fn mo_age(tasks: *const u64, length: usize, places: usize, gap: u64, z: u64, age: *mut u64) -> u64;
         pub fn mo_make_table(
@@ -122,6 +127,11 @@ impl Program for Proved {
     fn read(table: &Table, t: u64) -> u64 {
         let (starts, latencies) = (&table.starts, &table.latencies);
         unsafe { c::mo_read_table(starts.as_ptr(), starts.len(), latencies.as_ptr(), latencies.len(), starts.len() as u64, table.h, t) }
+    }
+
+    fn histogram(table: &Table, width: u64, counts: &mut [u64], rest: &mut u64) -> u64 {
+        let (starts, latencies) = (&table.starts, &table.latencies);
+        unsafe { c::mo_histogram(starts.as_ptr(), starts.len(), latencies.as_ptr(), latencies.len(), starts.len() as u64, table.h, width, counts.as_mut_ptr(), counts.len(), rest) }
     }
 
     fn delay(chain: &Chain, t: u64, out: &mut u64) -> u64 {
@@ -161,6 +171,10 @@ impl Program for Plain {
         plain::table::read_at(&table.starts, &table.latencies, table.starts.len(), table.h, t).unwrap_or_else(|r| REFUSED + r.number)
     }
 
+    fn histogram(table: &Table, width: u64, counts: &mut [u64], rest: &mut u64) -> u64 {
+        give(plain::histogram::histogram(&table.starts, &table.latencies, table.starts.len(), table.h, width, counts), rest)
+    }
+
     fn delay(chain: &Chain, t: u64, out: &mut u64) -> u64 {
         give(plain::timing::delay(&chain.tasks, chain.gap, t), out)
     }
@@ -191,6 +205,10 @@ impl Program for Enumerating {
 
     fn read(table: &Table, t: u64) -> u64 {
         enumerate::read_at(&table.starts, &table.latencies, table.starts.len(), table.h, t).unwrap_or_else(|r| REFUSED + r.number)
+    }
+
+    fn histogram(table: &Table, width: u64, counts: &mut [u64], rest: &mut u64) -> u64 {
+        give(enumerate::histogram(&table.starts, &table.latencies, table.starts.len(), table.h, width, counts), rest)
     }
 
     fn delay(chain: &Chain, t: u64, out: &mut u64) -> u64 {
@@ -226,6 +244,10 @@ impl Program for Dividing {
         Plain::read(table, t)
     }
 
+    fn histogram(table: &Table, width: u64, counts: &mut [u64], rest: &mut u64) -> u64 {
+        Plain::histogram(table, width, counts, rest)
+    }
+
     fn delay(chain: &Chain, t: u64, out: &mut u64) -> u64 {
         Plain::delay(chain, t, out)
     }
@@ -247,7 +269,7 @@ impl Program for Dividing {
     }
 }
 
-/// Plain Rust with the chain copied at each call; reading, sections and bookings are the plain program's.
+/// Plain Rust with the chain copied at each call; the calls on tables, sections and bookings are the plain program's.
 pub struct ByValue;
 
 impl Program for ByValue {
@@ -258,6 +280,10 @@ impl Program for ByValue {
 
     fn read(table: &Table, t: u64) -> u64 {
         Plain::read(table, t)
+    }
+
+    fn histogram(table: &Table, width: u64, counts: &mut [u64], rest: &mut u64) -> u64 {
+        Plain::histogram(table, width, counts, rest)
     }
 
     fn delay(chain: &Chain, t: u64, out: &mut u64) -> u64 {
@@ -281,6 +307,43 @@ impl Program for ByValue {
     }
 }
 
+/// A histogram entry by entry; all else is the plain program's.
+pub struct ByEntries;
+
+impl Program for ByEntries {
+    fn make(chain: &Chain, p: usize, starts: &mut [u64], latencies: &mut [u64], figures: &mut [u64; 4]) -> u64 {
+        Plain::make(chain, p, starts, latencies, figures)
+    }
+
+    fn read(table: &Table, t: u64) -> u64 {
+        Plain::read(table, t)
+    }
+
+    fn histogram(table: &Table, width: u64, counts: &mut [u64], rest: &mut u64) -> u64 {
+        give(by_entries::histogram(&table.starts, &table.latencies, table.starts.len(), table.h, width, counts), rest)
+    }
+
+    fn delay(chain: &Chain, t: u64, out: &mut u64) -> u64 {
+        Plain::delay(chain, t, out)
+    }
+
+    fn age(chain: &Chain, z: u64, out: &mut u64) -> u64 {
+        Plain::age(chain, z, out)
+    }
+
+    fn windows(chain: &Chain, b: u64, k: u64, out: &mut [u64; 2]) -> u64 {
+        Plain::windows(chain, b, k, out)
+    }
+
+    fn sections(chain: &Chain, cuts: &[u64], out: &mut [u64; 14]) -> u64 {
+        Plain::sections(chain, cuts, out)
+    }
+
+    fn bookings(schedule: &Schedule, t: u64, out: &mut [u64; 4]) -> u64 {
+        Plain::bookings(schedule, t, out)
+    }
+}
+
 /// Plain Rust with the chain lent as a flat list.
 pub struct Flat;
 
@@ -291,6 +354,10 @@ impl Program for Flat {
 
     fn read(table: &Table, t: u64) -> u64 {
         Plain::read(table, t)
+    }
+
+    fn histogram(table: &Table, width: u64, counts: &mut [u64], rest: &mut u64) -> u64 {
+        Plain::histogram(table, width, counts, rest)
     }
 
     fn delay(chain: &Chain, t: u64, out: &mut u64) -> u64 {

@@ -4,6 +4,7 @@ pub mod anchors;
 pub mod bookings;
 pub mod chain;
 pub mod division;
+pub mod histogram;
 pub mod latency;
 pub mod maker;
 pub mod outset;

@@ -2,7 +2,7 @@
 use crate::division::remainder;
 use crate::{Refusal, HYPERPERIOD_LIMIT, UPPER_TICK};
 
-const LATENCY_LIMIT: u64 = 60_011_000;
+pub const LATENCY_LIMIT: u64 = 60_011_000;
 const FIRST_START_LIMIT: u64 = 1_000_000_000;
 
 fn is_fitting(start: u64, next: u64, latency: u64) -> bool {
