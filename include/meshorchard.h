@@ -29,9 +29,9 @@
  * instrument with another processor the calls wait for such a back end; until then they serve hosts, which may work the table out and
  * hand the instrument its anchors.
  *
- * Time. mo_read_table and the figures take one to three passes over the g anchors; mo_histogram two over the anchors and two over its list,
- * with two divisions for each anchor, however wide the entries are and however long h is; mo_check, mo_warm_up, mo_delay and mo_age a few over the
- * places; the calls on files one over the bytes.
+ * Time. mo_read_table and the figures take one to three passes over the g anchors; mo_histogram two over the anchors, with two divisions for
+ * each of them, and two over its list, however wide the entries are and however long h is; mo_check, mo_warm_up, mo_delay and mo_age a few
+ * over the places; the calls on files one over the bytes.
  * mo_make_table walks h / T partitions, T being the period at the place of the cut, and a partition costs each place once: with h 60,000,000
  * and twelve places 0.015 ms where the longest period, 78,125, is cut at, and 0.9 s at a place of period 1. Cut at the longest period no
  * chain has more than 3,063,060 partitions, which take 0.05 s at twelve places. The call divides only before the second partition, some 90
@@ -185,12 +185,13 @@ uint64_t mo_exceedance(const uint64_t *starts, size_t starts_length,
                        uint64_t g, uint64_t h, uint64_t b, uint64_t *run, uint64_t *endless);
 
 /*
- * How often each delay occurs in one hyperperiod of h ticks: counts[i] becomes the number of ticks with a delay from i * width up to below
- * (i + 1) * width, and rest the number of ticks with a delay from counts_length * width on, so that all of them come to h. Every entry is
- * written, with 0 where there is no such delay. The products are meant without end of numbers: width may be any number but 0, and with one
- * above every delay counts[0] is h. With a list of mo_greatest's latency / width + 1 entries rest is 0. The list may be empty: rest is then
- * h; counts points somewhere all the same. Of a table from mo_make_table these are the delays of mo_delay at the h ticks from the warm-up tick
- * on, or from any later tick. That is proved (crates/histogram, crates/capi_agreement).
+ * How often each delay occurs: counts[i] becomes the number of ticks with a delay from i * width up to below (i + 1) * width, and rest the
+ * number of ticks with a delay from counts_length * width on, of one hyperperiod. The delays are those that mo_read_table gives at the h ticks
+ * from starts[0] on, without the upper tick; any other h ticks from starts[0] on have the same counts. Every entry is written, with 0 where
+ * there is no such delay, and all entries and rest come to h. The products are meant without end of numbers: width may be any number but 0, and
+ * with one above every delay counts[0] is h. With mo_greatest's latency / width + 1 entries rest is 0. The list may be empty, and rest is then
+ * h; counts points somewhere all the same. Of a table from mo_make_table the delays are those that mo_delay gives at h ticks from the warm-up
+ * tick on. That is proved (crates/histogram, crates/capi_histogram, crates/capi_agreement).
  *
  * Refuses, the first that applies, both at place 0, with the list as it was and 0 in rest:
  *   MO_TABLE_NOT_WELL_FORMED   the table is not well-formed;
@@ -326,13 +327,15 @@ uint64_t mo_sections(const uint64_t *tasks, size_t tasks_length, size_t places, 
  * first the tasks, then the chains, then the gap where it is not 0, then the end, then nothing. A gap of 0 has no record. The longest file
  * has 698 bytes.
  *
- * From the bytes of a file to the table of chain 2, and to the bookings by chains 1 and 2 of a press at t:
+ * From the bytes of a file to the table of chain 2, to how often its delays occur in steps of a millisecond, and to the bookings by chains
+ * 1 and 2 of a press at t:
  *
- *     uint64_t tasks[128], chains[48], places[4], counts[3], flat[36], n, figures[4], both[4];
+ *     uint64_t tasks[128], chains[48], places[4], counts[3], flat[36], n, figures[4], bars[64], rest, both[4];
  *     if (mo_read_file(bytes, size, tasks, chains, places, counts) == 0) {
  *         uint64_t gap = counts[2];
  *         if (mo_chain_of_schedule(tasks, 128, counts[0], chains, 48, places, 4, counts[1], gap, 2, flat, &n) == 0)
- *             .. mo_make_table(flat, 36, n, gap, p, starts, slots, latencies, slots, figures) ..
+ *             if (mo_make_table(flat, 36, n, gap, p, starts, slots, latencies, slots, figures) == 0)
+ *                 .. mo_histogram(starts, slots, latencies, slots, figures[0], figures[2], 1000, bars, 64, &rest) ..
  *         if (mo_bookings(tasks, 128, counts[0], chains, 48, places, 4, counts[1], gap, 1, 2, t, both) == 0)
  *             .. one chain has booked at both[1], the other at both[0], which is both[2] later ..
  *     }

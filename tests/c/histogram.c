@@ -1,5 +1,5 @@
 /*
- * How often each delay occurs, through the header: worked examples of order 7 in document 02, refusals, and tables of every length up to 1,024 anchors with lists of up to
+ * How often each delay occurs, through the header, order 7 of document 02: worked examples, refusals, and tables of every length up to 1,024 anchors with lists of up to
  * 4,096 entries, held to a count tick by tick. tests/c/run builds and runs it.
  */
 #include "meshorchard.h"

@@ -138,7 +138,9 @@ int main(void)
     held("mo_throughput", throughput, MO_STACK_FIGURES);
     held("mo_exceedance", exceedance, MO_STACK_FIGURES);
     held("mo_histogram", histogram, MO_STACK_HISTOGRAM);
-    expect("some delays in the list, and some beyond it or none", many[0] == 0 && a < 60000000, 1);
+    for (size_t i = 0; i < 1024; i++)
+        a += many[i];
+    expect("all ticks, in the list and beyond it", a, 60000000);
     held("mo_windows", windows, MO_STACK_WINDOWS);
     expect("some jobs miss, and no 100 in a row", a > 0 && a < 100, 1);
     held("mo_sections", sections, MO_STACK_SECTIONS);

@@ -16,11 +16,12 @@ use Rattle.timing.specs.WarmUp.{warmTick}
 use Rattle.timing.specs.Delay.{delayAt, firstAged, ageAt}
 use Rattle.timing.specs.Answers.{upperTick, delayOf, ageOf}
 use Rattle.timing.specs.Spans.{span-there}
-use Rattle.table.specs.Anchors.{Anchor, anchors}
+use Rattle.table.specs.Anchors.{Anchor, anchors, firstStart}
 use Rattle.table.specs.declared.Reading.{Reading}
 use Rattle.table.specs.declared.Reading.the-variants.{Delay}
 use Rattle.table.specs.WellFormed.{wellFormed}
 use Rattle.table.specs.Reading.{reading}
+use Rattle.table.specs.Reading as table
 use Rattle.table.specs.Figures.{greatest}
 use Rattle.figures.specs.declared.Greatest.the-variants.{Latency}
 use Rattle.figures.specs.Figures.{greatestOf}
@@ -98,6 +99,13 @@ module _ (c : Chain) (twelve : length (c .tasks) ≡ 12) where
     -- A completed table is well-formed.
     pub well-formed : wellFormed s′ v′ (f .anchors) (f .hyperperiod) ≡ true
     well-formed = made-well-formed c twelve p s v s′ v′ f makes
+
+    -- It begins with the warm-up tick, and its own delay is the walk's, also past the upper tick.
+    pub made-first-start : firstStart (anchors s′ v′ (f .anchors)) ≡ f .tick .0
+    made-first-start = ap firstStart (made-anchors c twelve p s v s′ v′ f makes) ∙ made-first c twelve p s v s′ v′ f makes ∙ sym (held .tick)
+
+    pub made-as-walk : (t : ℕ) → firstStart (anchors s′ v′ (f .anchors)) ≤ t → delayAt (tasksOf c) t ≡ table.delayAt (f .hyperperiod) (anchors s′ v′ (f .anchors)) t
+    made-as-walk t h = rw (made-anchors c twelve p s v s′ v′ f makes, held .hyper) (sym (table-walk (tasksOf c) (held .sound) t (omega (arith, held .tick, made-first-start))))
 
     pub table-is-walk : (t : ℕ) → f .tick .0 ≤ t → t ≤ upperTick → SameDelay c s′ v′ f t
     table-is-walk t low high = record { delay = delayAt (tasksOf c) t; walked = walks t low high; read = reads t low high }

@@ -23,7 +23,7 @@ use Rattle.maker.specs.declared.Made.the-variants.{Whole}
 use Rattle.maker.specs.Making.{figuresOf, Makes}
 use Rattle.agreement.specs.ReadsAsWalk.{table-walk}
 use Rattle.agreement.specs.MadeTable.{made-anchors, made-first, made-well-formed}
-use Rattle.agreement.specs.Agreement.{held}
+use Rattle.agreement.specs.Agreement.{held, made-first-start, made-as-walk}
 use Rattle.agreement.specs.EveryChain.{Asked, anchorCount, every-chain}
 
 -- The call answers twice the integral of the walk's delay over a hyperperiod, whichever it is from the warm-up tick on, and twice H.
@@ -42,15 +42,6 @@ module _ (c : Chain) (twelve : length (c .tasks) ≡ 12) (p : ℕ) (s v s′ v�
         let w = well-formed-iff s′ v′ (f .anchors) (f .hyperperiod) .0 (made-well-formed c twelve p s v s′ v′ f makes) in
         well-formed-laws s′ v′ (f .anchors) (f .hyperperiod) w
 
-    pub first : firstStart made ≡ f .tick .0
-    first = ap firstStart (made-anchors c twelve p s v s′ v′ f makes) ∙ made-first c twelve p s v s′ v′ f makes ∙ sym (held c twelve p s v s′ v′ f makes .tick)
-
-    -- at whole ticks the table gives the walk's delay
-    pub same : (t : ℕ) → firstStart made ≤ t → delayAt (tasksOf c) t ≡ table.delayAt (f .hyperperiod) made t
-    same t h =
-        let k = held c twelve p s v s′ v′ f makes in
-        rw (made-anchors c twelve p s v s′ v′ f makes, k .hyper) (sym (table-walk (tasksOf c) (k .sound) t (omega (arith, k .tick, first))))
-
     pub mean-is-integral : MeanIsIntegral c s′ v′ f
     unfolding meanOf
     mean-is-integral =
@@ -58,7 +49,7 @@ module _ (c : Chain) (twelve : length (c .tasks) ≡ 12) (p : ℕ) (s v s′ v�
         record {
           doubled = doubledArea (f .hyperperiod) made;
           answered = rw (made-well-formed c twelve p s v s′ v′ f makes);
-          integral = λ t h. area-integral (f .hyperperiod) made formed (delayTimed (tasksOf c)) (delayAt (tasksOf c)) (λ n u i a b. falls n u i b) same t (omega (arith, first));
+          integral = λ t h. area-integral (f .hyperperiod) made formed (delayTimed (tasksOf c)) (delayAt (tasksOf c)) (λ n u i a b. falls n u i b) (made-as-walk c twelve p s v s′ v′ f makes) t (omega (arith, made-first-start c twelve p s v s′ v′ f makes));
         }
 
   -- Of every accepted chain, every place of it and every two lists that hold its anchors.

@@ -25,8 +25,8 @@ use Rattle.table.specs.Words.{word-small}
 use Rattle.figures.specs.Figures.{greatestOf, meanOf}
 use Rattle.figures.specs.Integral.{Integral}
 use Rattle.histogram.specs.declared.Histogram.{Histogram}
-use Rattle.histogram.specs.Histogram.{histogramOf, countsOf, Gives}
-use Rattle.histogram.specs.EveryHyperperiod.{Counts, CountsDelays}
+use Rattle.histogram.specs.Histogram.{histogramOf, Gives}
+use Rattle.histogram.specs.EveryHyperperiod.{Counts, counts-same}
 use Rattle.maker.specs.declared.Figures.{Figures}
 use Rattle.maker.specs.declared.Made.the-variants as made
 use Rattle.maker.specs.Making.{judged, Makes}
@@ -82,6 +82,12 @@ pub record GreatestForC (c : Chain) (latency : ℕ) : Type 0 where
 pub record MeanForC (c : Chain) (from h area ticks : ℕ) : Type 0 where
   pub integral : (t : ℕ) → from ≤ t → Integral (delayTimed (tasksOf c)) (delayAt (tasksOf c)) t h area
   pub doubled-ticks : ticks ≡ 2 * h
+
+-- A histogram: the list and the rest count the walk's delays of the h ticks from any tick on that is not before the warm-up tick; and where none of these ticks is above the upper
+-- one, what mo_delay gives at each of them.
+pub record CountsForC (c : Chain) (from h width : ℕ) (list : List ℕ) (rest : ℕ) : Type 0 where
+  pub walked : (t : ℕ) → from ≤ t → Counts (delayAt (tasksOf c)) t h width list rest
+  pub delayed : (t : ℕ) → from ≤ t → t + h ≤ upperTick + 1 → (delay : ℕ → ℕ) → ((u : ℕ) → t ≤ u → u < t + h → (code : ℕ) × GivesDelay c u code (delay u)) → Counts delay t h width list rest
 
 module _ (tasks : List ℕ) (places gap : ℕ) where
   abbrev c : Chain
@@ -197,9 +203,9 @@ module _ (tasks : List ℕ) (places gap : ℕ) where
           record { integral = λ t h. rw (e, done .hyperperiod) (m .integral t (omega (arith, done .from))); doubled-ticks = omega (arith, k, done .hyperperiod) },
         )
 
-    -- Order 7: the list and the rest count the walk's delays at the h ticks from any tick on that is not before the warm-up tick.
+    -- Order 7: the list and the rest of mo_histogram count the walk's delays.
     pub counts-for-c : (width : ℕ) (counts list : List ℕ) (code′ rest : ℕ) → GivesHistogram s′ v′ (count figures) (hyper figures) width counts list code′ rest → 1 ≤ width
-        → (code′ ≡ 0) × ((t : ℕ) → tick figures ≤ t → Counts (delayAt (tasksOf c)) t (hyper figures) width list rest)
+        → (code′ ≡ 0) × CountsForC c (tick figures) (hyper figures) width list rest
     counts-for-c width counts list code′ rest g some =
         let f = done .given in
         let r : Histogram = histogramOf s′ v′ (f .anchors) (f .hyperperiod) width (length counts) in
@@ -208,9 +214,17 @@ module _ (tasks : List ℕ) (places gap : ℕ) where
         let n : (code′ ∷ rest ∷ []) ≡ 0 ∷ k .rest ∷ []
         = g .answers ∙ ap (λ (x : ℕ). histogramNumbers (histogramOf s′ v′ x (hyper figures) width (length counts))) (done .anchors)
         ∙ ap (λ (x : ℕ). histogramNumbers (histogramOf s′ v′ (f .anchors) x width (length counts))) (done .hyperperiod) ∙ ap histogramNumbers (k .answered) in
-        let e : rest ≡ k .rest = ap (λ (l : List ℕ). getD l 1 0) n in (
+        let e : rest ≡ k .rest = ap (λ (l : List ℕ). getD l 1 0) n in
+        let walked : (t : ℕ) → tick figures ≤ t → Counts (delayAt (tasksOf c)) t (hyper figures) width list rest = λ t h. rw (e, done .hyperperiod) (k .counts t (omega (arith, done .from))) in (
           ap (λ (l : List ℕ). getD l 0 0) n,
-          λ t h. rw (e, done .hyperperiod) (k .counts t (omega (arith, done .from))),
+          record {
+            walked = walked;
+            delayed = λ t low high delay gives.
+                counts-same _ t (hyper figures) width list rest (walked t low) delay
+                (λ u from below.
+                let q = gives u from below in
+                sym (q .1 .1 ∙ ap spanTicks (agreed .walked u (omega (arith, done .from)) (omega arith))));
+          },
         )
 
   pub cuts-agree-for-c : (p q : ℕ) (s v : List ℕ) (code : ℕ) (s′ v′ figures : List ℕ) → GivesTable c p s v code s′ v′ figures → code ≡ 0

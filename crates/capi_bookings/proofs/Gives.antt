@@ -1,9 +1,10 @@
 -- What the bookings of two chains answer, as C gets it.
 use Prim.Native.Nat.{ℕ, _≤_, _<_}
-use mathlib.Core.Path.{_≡_, sym, ap, _∙_}
+use mathlib.Core.Path.{_≡_, refl, sym, ap, _∙_}
 use mathlib.Core.List.{[], _∷_}
 use Rattle.refusal.specs.declared.Refusal.{Refusal}
 use Rattle.refusal.specs.Refusals.{codeOf}
+use Rattle.refusal.proofs.Arms.{gives, gives-refusal}
 use Rattle.task.specs.declared.Tick.{Tick}
 use Rattle.schedule.specs.declared.Schedule.{Schedule}
 use Rattle.bookings.specs.declared.Bookings.{Bookings}
@@ -19,10 +20,10 @@ module _ (s u : Schedule) (first second t : ℕ) (b : Bookings) (same : s ≡ u)
 
   pub gives-both : (later earlier : Tick) (difference greatest : ℕ) → b ≡ Both later earlier difference greatest
       → GivesBookings u first second t 0 (later .0 ∷ earlier .0 ∷ difference ∷ greatest ∷ [])
-  gives-both later earlier difference greatest e = ap bookingNumbers (sym e ∙ answer)
+  gives-both later earlier difference greatest e = gives bookingNumbers answer e
 
-  pub gives-refusal : (r : Refusal) (code : ℕ) → b ≡ Refused r → code ≡ codeOf r → GivesBookings u first second t code (0 ∷ 0 ∷ 0 ∷ 0 ∷ [])
-  gives-refusal r code e c = ap (λ (n : ℕ). n ∷ 0 ∷ 0 ∷ 0 ∷ 0 ∷ []) c ∙ ap bookingNumbers (sym e ∙ answer)
+  pub refuses : (r : Refusal) (code : ℕ) → b ≡ Refused r → code ≡ codeOf r → GivesBookings u first second t code (0 ∷ 0 ∷ 0 ∷ 0 ∷ [])
+  refuses r code e c = gives-refusal bookingNumbers answer e r (0 ∷ 0 ∷ 0 ∷ 0 ∷ []) refl code c
 
   pub code-fits : (r : Refusal) → b ≡ Refused r → (r .number < 256) × (r .place ≤ 1000000000)
   code-fits r e = rw (sym answer ∙ e) at (from-small u first second t)

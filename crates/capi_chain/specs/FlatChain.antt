@@ -6,7 +6,7 @@ use lib.Dec.{leb, eqb}
 use lib.ListN.{length, getD}
 use Rattle.task.specs.declared.Task.{Task}
 use Rattle.chain.specs.declared.Chain.{Chain}
-use Rattle.chain.specs.Entries.{entries}
+use Rattle.ranges.specs.Entries.{entries}
 
 -- Task i of the list, zeros where the list does not hold it whole.
 unfoldable pub taskAt : List ℕ → ℕ → Task

@@ -13,7 +13,7 @@ use Rattle.task.specs.declared.Task.{Task}
 use Rattle.chain.specs.declared.Chain.{Chain}
 use Rattle.chain.specs.Chains.{givenOf, zeroTask}
 use Rattle.chain.specs.Flat.{taskFields, flatChain, givenIn, given-count, given-at, in-flat, length-flat}
-use Rattle.chain.specs.Entries.{entries-length, entries-at, entries-are}
+use Rattle.ranges.specs.Entries.{entries-length, entries-at, entries-are}
 use Rattle.chain.specs.StandsFor.{StandsFor, stands-same, stands-wrong}
 use Rattle.capi_chain.specs.FlatChain.{taskAt, placesOf, chainFrom}
 

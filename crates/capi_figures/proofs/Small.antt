@@ -2,7 +2,7 @@
 use Prim.Native.Nat.{ℕ, _<_}
 use native.Mathlib.Omega.{arith}
 use mathlib.Core.List.{List}
-use Rattle.refusal.specs.Arms.{code, either}
+use Rattle.refusal.proofs.Arms.{code, either}
 use Rattle.table.specs.Anchors.{anchors, firstStart}
 use Rattle.table.specs.WellFormed.{wellFormed}
 use Rattle.table.specs.Reading.{delayAt}

@@ -11,7 +11,7 @@ use lib.Seq.{take-at, getD-take, length-take-le}
 use borrow.Author.Tests.{eqb-false}
 use Rattle.refusal.specs.Refusals.{refusal, none}
 use Rattle.chain.specs.Flat.{take-flat}
-use Rattle.chain.specs.Entries.{entries-length, entries-at}
+use Rattle.ranges.specs.Entries.{entries-length, entries-at}
 use Rattle.schedule.specs.declared.NumberedTask.{NumberedTask}
 use Rattle.schedule.specs.declared.Route.{Route}
 use Rattle.schedule.specs.declared.Schedule.{Schedule}

@@ -3,7 +3,7 @@ use Prim.Native.Nat.{ℕ, _<_}
 use native.Mathlib.Omega.{arith}
 use mathlib.Core.List.{List}
 use lib.Dec.{ltb}
-use Rattle.refusal.specs.Arms.{code, either}
+use Rattle.refusal.proofs.Arms.{code, either}
 use Rattle.table.specs.WellFormed.{wellFormed}
 use Rattle.histogram.specs.Histogram.{histogramOf}
 use Rattle.capi_histogram.specs.Calls.{histogramNumbers}

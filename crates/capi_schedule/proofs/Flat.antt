@@ -10,7 +10,7 @@ use mathlib.Core.List.{List, [], _∷_, _++_, append-assoc, append-nil}
 use lib.ListN.{List·getD-eq-default, length, getD, set, take, replicate, length-append, length-set, length-replicate}
 use lib.Seq.{sets, take-all, length-take-le}
 use Rattle.chain.specs.Flat.{flatOf, length-flat, flat-more}
-use Rattle.chain.specs.Entries.{entries, entries-length}
+use Rattle.ranges.specs.Entries.{entries, entries-length, entries-more}
 use Rattle.schedule.specs.Schedules.{padded}
 use Rattle.capi_schedule.specs.FlatSchedule.{heldFrom}
 use Rattle.schedule.specs.Padding.{padded-none, padded-set, padded-same, padded-whole}
@@ -18,18 +18,10 @@ use Rattle.schedule.specs.Padding.{padded-none, padded-set, padded-same, padded
 -- ---- arrays from a rule
 
 module _ {A : Type 0} (f : ℕ → A) where
-  entries-more : (p n : ℕ) → entries f p (suc n) ≡ entries f p n ++ (f (p + n) ∷ [])
-  unfolding entries
-  entries-more p zero = let e : p + 0 ≡ p = omega arith in rw e
-  entries-more p (suc n) =
-      let e : suc p + n ≡ p + suc n = omega arith in
-      let h = entries-more (suc p) n in
-      ap (λ (l : List A). f p ∷ l) (rw e at h)
-
   more : (n i : ℕ) (d : A) → padded n d (entries f 0 i ++ (f i ∷ [])) ≡ padded n d (entries f 0 (i + 1))
   more n i d =
       let e : 0 + i ≡ i = omega arith in
-      ap (λ (k : ℕ). padded n d (entries f 0 i ++ (f k ∷ []))) (sym e) ∙ ap (padded n d) (sym (entries-more 0 i)) ∙ ap (λ (k : ℕ). padded n d (entries f 0 k)) (sym (add-one i))
+      ap (λ (k : ℕ). padded n d (entries f 0 i ++ (f k ∷ []))) (sym e) ∙ ap (padded n d) (sym (entries-more f 0 i)) ∙ ap (λ (k : ℕ). padded n d (entries f 0 k)) (sym (add-one i))
 
   -- a loop that fills an array of n entries from the front has come to entry i; d is what the array held before
   abbrev pub Filled : ℕ → A → ℕ → List A → Type 0

@@ -10,7 +10,7 @@ use lib.ListN.{length, getD, take}
 use lib.Seq.{take-add, drop-cons, ext-getD, getD-take, length-take-le}
 use borrow.Author.Tests.{le-leb, leb-true}
 use Rattle.chain.specs.Flat.{flatOf, length-flat, flat-more}
-use Rattle.chain.specs.Entries.{entries-length, entries-at, entries-are, entries-front, map-front}
+use Rattle.ranges.specs.Entries.{entries-length, entries-at, entries-are, entries-front, map-front}
 use Rattle.schedule.specs.declared.NumberedTask.{NumberedTask}
 use Rattle.schedule.specs.declared.Route.{Route}
 use Rattle.schedule.specs.declared.Schedule.{Schedule}

@@ -1,14 +1,13 @@
--- What windows of jobs answer, as C gets it; and every refusal fits one number.
+-- Every refusal of windows of jobs fits one number.
 use Prim.Native.Nat.{ℕ, _≤_, _<_}
 use native.Mathlib.Omega.{arith}
-use mathlib.Core.Path.{_≡_, sym, ap, _∙_}
+use mathlib.Core.Path.{_≡_, sym, _∙_}
 use mathlib.Core.Bool.{Bool, true, false, cond, _&&_}
-use mathlib.Core.List.{List, [], _∷_}
+use mathlib.Core.List.{List}
 use lib.Dec.{leb}
 use Rattle.refusal.specs.declared.Refusal.{Refusal}
-use Rattle.refusal.specs.Refusals.{refusal, codeOf}
+use Rattle.refusal.specs.Refusals.{refusal}
 use Rattle.task.specs.declared.Place.{Place}
-use Rattle.task.specs.declared.Job.{Job}
 use Rattle.chain.specs.declared.Chain.{Chain}
 use Rattle.chain.specs.declared.Verdict.{Verdict}
 use Rattle.chain.specs.declared.Verdict.the-variants as verdict
@@ -18,15 +17,6 @@ use Rattle.chain.proofs.CheckLaws.{SmallVerdict, verdict-small}
 use Rattle.windows.specs.declared.Windows.{Windows}
 use Rattle.windows.specs.declared.Windows.the-variants.{Most, Refused}
 use Rattle.windows.specs.Windows.{afterLimits, windowsAfter, windowsOf}
-use Rattle.capi_windows.specs.Calls.{windowNumbers}
-
--- w is the call's answer, q what it is by definition
-module _ (w q : Windows) (right : w ≡ q) where
-  pub gives-most : (m : ℕ) (j : Job) → w ≡ Most m j → (0 ∷ m ∷ j .0 ∷ []) ≡ windowNumbers q
-  gives-most m j e = ap windowNumbers (sym e ∙ right)
-
-  pub gives-refusal : (r : Refusal) → w ≡ Refused r → (code : ℕ) → code ≡ codeOf r → (code ∷ 0 ∷ 0 ∷ []) ≡ windowNumbers q
-  gives-refusal r e code f = ap (λ (x : ℕ). x ∷ 0 ∷ 0 ∷ []) f ∙ ap windowNumbers (sym e ∙ right)
 
 pub after-small : (v : Verdict) → SmallVerdict v → (k : ℕ) → SmallVerdict (afterLimits v k)
 after-small (verdict.Refused r) s k = s

@@ -1,7 +1,6 @@
 pub mod Chains
 pub mod Placed
 pub mod Flat
-pub mod Entries
 pub mod Hyperperiod
 pub mod Checks
 pub mod StandsFor

@@ -16,7 +16,7 @@ use Rattle.chain.specs.declared.Chain.{Chain}
 use Rattle.chain.specs.declared.Verdict.{Verdict}
 use Rattle.chain.specs.declared.Verdict.the-variants.{Accepted, Refused}
 use Rattle.chain.specs.Chains.{givenOf, placed, tasksOf, zeroTask}
-use Rattle.chain.specs.Entries.{entries, entries-length, entries-at}
+use Rattle.ranges.specs.Entries.{entries, entries-length, entries-at}
 use Rattle.chain.specs.Checks.{verdictFor, verdictOf, verdictIn}
 use Rattle.chain.specs.Flat.{flatChain, givenIn, flatLength, flat-front}
 

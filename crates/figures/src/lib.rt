@@ -49,7 +49,8 @@ fn larger(a: u64, b: u64) -> u64
     if a < b { b } else { a }
 }
 
-fn smaller(a: u64, b: u64) -> u64
+// The smaller of two, also for `histogram`.
+pub fn smaller(a: u64, b: u64) -> u64
     ensures { λ r. ⌜ r ≡ min a b ⌝ }
 {
     if a < b { a } else { b }
@@ -78,7 +79,7 @@ fn with_anchor(m: Gathered, d: u64, v: u64) -> Gathered
     }
 }
 
-// The ticks from the start at place i to the next start, which is `end` after the last place.
+// The ticks from the start at place i to the next start, which is `end` after the last place. The loops over anchors that call it, that of `histogram` too, know that the starts rise.
 pub fn distance_at(starts: &[u64], g: usize, end: u64, i: usize) -> u64
     requires { ⌜ (i < g) × (g ≤ length (now starts)) × (getD (now starts) i 0 ≤ nextStart (now starts) g end i) ⌝ }
     ensures { λ r. ⌜ r ≡ nextStart (now (starts .entry)) g end i - getD (now (starts .entry)) i 0 ⌝ }

@@ -114,7 +114,7 @@ module _ (s : Schedule) (a : Arrays s) (n : ℕ) where
 
     -- How often each delay occurs, of the walk's delays at the ticks of a hyperperiod.
     pub counts-from : (width : ℕ) (counts list : List ℕ) (r : Histogram) → Gives starts′ latencies′ (f .anchors) (f .hyperperiod) width counts list r → 1 ≤ width
-        → CountsDelays (delayAt (tasksOf (chainAt s n))) (f .tick .0) (f .hyperperiod) width list r
+        → CountsDelays (delayAt (tasksOf (chainAt s n))) (f .tick .0) (f .hyperperiod) width counts list r
     counts-from = counts-walks (chainAt s n) (chosen-twelve s n a completed-chosen) p starts latencies starts′ latencies′ f made
 
   pub cuts-agree-from : (p q : ℕ) (starts latencies starts′ latencies′ : List ℕ) (f : Figures) → MakesFrom s n p starts latencies starts′ latencies′ (Whole f)

@@ -1,11 +1,12 @@
 -- Document 02, order 7: how many ticks of one hyperperiod have each delay. Each entry of the lent list and the rest are counted from the ticks, none from another.
-use Prim.Native.Nat.{ℕ, zero, suc, _+_, _*_}
+use Prim.Native.Nat.{ℕ, _+_, _*_}
 use mathlib.Core.Bool.{Bool, cond, _&&_}
-use mathlib.Core.List.{List, [], _∷_}
+use mathlib.Core.List.{List}
 use mathlib.Core.Path.{_≡_}
 use lib.Dec.{leb, ltb}
 use lib.ListN.{length}
 use Rattle.refusal.specs.Refusals.{refusal}
+use Rattle.ranges.specs.Entries.{entries}
 use Rattle.table.specs.Anchors.{Anchor, anchors, firstStart}
 use Rattle.table.specs.WellFormed.{wellFormed}
 use Rattle.table.specs.Reading.{delayAt}
@@ -37,16 +38,6 @@ entryOf width H l i = count (inEntry width i) (delayAt H l) (firstStart l) H
 abbrev pub restOf : ℕ → ℕ → List Anchor → ℕ → ℕ
 restOf width H l n = count (beyond width n) (delayAt H l) (firstStart l) H
 
--- The n values of a rule from place i on.
-unfoldable pub entriesFrom : (ℕ → ℕ) → ℕ → ℕ → List ℕ
-entriesFrom entry i zero = []
-entriesFrom entry i (suc n) = entry i ∷ entriesFrom entry (i + 1) n
-
--- All entries of a list together.
-unfoldable pub sum : List ℕ → ℕ
-sum [] = 0
-sum (x ∷ l) = x + sum l
-
 -- What the call answers: "14 is tested before it; a width of 0 is then refused with 18"; else the rest.
 unfoldable pub histogramOf : List ℕ → List ℕ → ℕ → ℕ → ℕ → ℕ → Histogram
 histogramOf starts latencies g H width n =
@@ -54,12 +45,15 @@ histogramOf starts latencies g H width n =
     (cond (ltb 0 width) (Rest (restOf width H (anchors starts latencies g) n)) (Refused (refusal 18 0)))
     (Refused (refusal 14 0))
 
--- What it leaves in the lent list: every entry, or in a refusal what was there.
+-- What is left in the lent list, by the answer: the counts, or in a refusal what was there.
+abbrev pub countsAfter : Histogram → List ℕ → List ℕ → List ℕ
+countsAfter (Rest n) found counts = found
+countsAfter (Refused r) found counts = counts
+
+-- Every entry of the list has its count.
 unfoldable pub countsOf : List ℕ → List ℕ → ℕ → ℕ → ℕ → List ℕ → List ℕ
 countsOf starts latencies g H width counts =
-    cond (wellFormed starts latencies g H)
-    (cond (ltb 0 width) (entriesFrom (entryOf width H (anchors starts latencies g)) 0 (length counts)) counts)
-    counts
+    countsAfter (histogramOf starts latencies g H width (length counts)) (entries (entryOf width H (anchors starts latencies g)) 0 (length counts)) counts
 
 -- Both: the call gets `counts` and leaves `left` in its place.
 pub record Gives (starts latencies : List ℕ) (g H width : ℕ) (counts left : List ℕ) (r : Histogram) : Type 0 where

@@ -1,6 +1,6 @@
 pub mod Histogram
 pub mod Counting
-pub mod Marking
+pub mod Differences
 pub mod Entries
 pub mod EveryHyperperiod
 pub mod Reach

@@ -1,20 +1,23 @@
 // How often each delay of a table occurs (order 7 of document 02).
 // An anchor's delays fall by one from its latency, so they are a range. Each range changes four differences of neighbouring entries, however many entries it covers; the sums of
-// the differences are then the entries. So a histogram takes one pass over the anchors and two over the list, and never a walk over ticks.
+// the differences are then the entries. So a histogram takes two passes over the anchors, of which one judges the table, and two over the list, and never a walk over ticks.
 use refusal::Refusal;
 ghost use mathlib.Core.Path.{_≡_};
-ghost use Prim.Native.Nat.{_+_, _-_, _*_, _%_, _≤_, _<_, min};
+ghost use Prim.Native.Nat.{_+_, _%_, _≤_};
 ghost use lib.ListN.{length, getD, replicate};
+ghost use Rattle.ranges.specs.Entries.{entries, sum};
 ghost use Rattle.table.specs.Anchors.{anchors};
 ghost use Rattle.table.specs.WellFormed.{WellFormed};
 ghost use Rattle.figures.specs.ByAnchors.{segments};
-ghost use Rattle.histogram.specs.Histogram.{entriesFrom, sum, Gives};
-ghost use Rattle.histogram.specs.Marking.{numbers, addedAt, opposite, shifted, withRange, withAnchor, upTo};
+ghost use Rattle.histogram.specs.Histogram.{Gives};
+ghost use Rattle.histogram.specs.Differences.{modulus, addedAt, opposite, shifted, withRange, withAnchor, upTo};
 ghost use Rattle.histogram.specs.Entries.{widest};
 
+// The numbers of the two refusals.
 const NOT_WELL_FORMED: u64 = 14;
 
 const WIDTH_ZERO: u64 = 18;
+
 // One more than the greatest latency that a table may have. No delay reaches it, so a greater width counts the same.
 const WIDEST: u64 = 60011001;
 
@@ -22,12 +25,6 @@ const WIDEST: u64 = 60011001;
 pub enum Histogram {
     Rest(u64),
     Refused(Refusal),
-}
-
-fn smaller(a: u64, b: u64) -> u64
-    ensures { λ r. ⌜ r ≡ min a b ⌝ }
-{
-    if a < b { a } else { b }
 }
 
 // What takes x off again, modulo 2^64.
@@ -91,15 +88,15 @@ fn add_anchors(starts: &[u64], latencies: &[u64], g: usize, h: u64, width: u64, 
     let mut i: usize = 0;
     while i < g {
         let d = figures::distance_at(starts, g, end, i);
-        let top = latencies[i] + 1;
-        add_range(counts, width, top - d, top);
+        let past = latencies[i] + 1;
+        add_range(counts, width, past - d, past);
         i += 1;
     }
 }
 
 // From differences to entries; what is left of `whole` after all of them.
 fn sum_up(counts: &mut [u64], whole: u64) -> u64
-    ensures { λ r. ⌜ (now (counts .exit) ≡ entriesFrom (λ i. upTo (now (counts .entry)) i % numbers) 0 (length (now (counts .entry)))) × ((r + sum (now (counts .exit))) % numbers ≡ whole % numbers) ⌝ }
+    ensures { λ r. ⌜ (now (counts .exit) ≡ entries (λ i. upTo (now (counts .entry)) i % modulus) 0 (length (now (counts .entry)))) × ((r + sum (now (counts .exit))) % modulus ≡ whole % modulus) ⌝ }
 {
     let mut left = whole;
     let mut entry: u64 = 0;
@@ -137,6 +134,13 @@ pub fn histogram_of(
         });
     }
     clear(counts);
-    add_anchors(starts, latencies, g, h, smaller(width, WIDEST), counts);
+    add_anchors(
+        starts,
+        latencies,
+        g,
+        h,
+        figures::smaller(width, WIDEST),
+        counts,
+    );
     Histogram::Rest(sum_up(counts, h))
 }

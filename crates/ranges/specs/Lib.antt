@@ -2,3 +2,4 @@ pub mod Largest
 pub mod LargestLaws
 pub mod Least
 pub mod LeastLaws
+pub mod Entries

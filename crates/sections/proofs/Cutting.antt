@@ -8,6 +8,7 @@ use mathlib.Core.Bool.{true}
 use mathlib.Core.List.{List, [], _∷_, _++_, map}
 use lib.ListN.{length, take, drop, set, getD, replicate, length-drop, length-map}
 use lib.Seq.{take-all, length-take-le, drop-drop, drop-nil}
+use Rattle.ranges.specs.Entries.{sum}
 use Rattle.task.specs.declared.Place.{Place}
 use Rattle.chain.proofs.Front.{rest-cons, rest-end}
 use Rattle.schedule.specs.Schedules.{padded}
@@ -45,7 +46,7 @@ pub record Cutting (g : ℕ) (l : List Place) (cuts : List ℕ) (latencies : Lis
   pub rises : risesTo (length l) from (drop i cuts) ≡ true
   pub stored : latencies ≡ padded 12 0 (take i (latenciesOf l cuts))
   pub left : drop i (latenciesOf l cuts) ≡ rest l from (drop i cuts)
-  pub summed : sumOf g l cuts ≡ total + (sections.added (rest l from (drop i cuts)) + length (drop i cuts) * g)
+  pub summed : sumOf g l cuts ≡ total + (sum (rest l from (drop i cuts)) + length (drop i cuts) * g)
   pub small : total ≤ i * 60012000
 
 module _ (g : ℕ) (l : List Place) (k : Cuttable g l) (cuts : List ℕ) where
@@ -106,7 +107,7 @@ module _ (g : ℕ) (l : List Place) (k : Cuttable g l) (cuts : List ℕ) where
           ∙ ap (λ (m : List Place). latency c ∷ map greatestLatency (partsFrom c m (drop (i + 1) cuts))) (drop-drop (c - from) from l ∙ ap (λ (x : ℕ). drop x l) e)
 
       pub cutting-turn : (x : ℕ) → x ≡ latency c → Cutting g l cuts (set latencies i x) (total + (x + g)) c (i + 1)
-      unfolding sections.added
+      unfolding sum
       cutting-turn x e =
           let s = stores (latency c) (rest l c (drop (i + 1) cuts)) next-rest in
           let n : length (drop i cuts) ≡ suc (length (drop (i + 1) cuts)) = ap length split in
@@ -118,7 +119,7 @@ module _ (g : ℕ) (l : List Place) (k : Cuttable g l) (cuts : List ℕ) where
             rises = next-cut .rest;
             stored = rw (e, a) (s .0);
             left = ap (λ (y : ℕ). drop y (latenciesOf l cuts)) a ∙ s .1;
-            summed = omega (arith, w .summed, e, ap sections.added next-rest, ap (λ (y : ℕ). y * g) n, suc-mul (length (drop (i + 1) cuts)) g);
+            summed = omega (arith, w .summed, e, ap sum next-rest, ap (λ (y : ℕ). y * g) n, suc-mul (length (drop (i + 1) cuts)) g);
             small = omega (arith, w .small, e, gap-small, latency-small c (next-cut .above) (omega (arith, next-cut .below)));
           }
 
@@ -128,7 +129,7 @@ module _ (g : ℕ) (l : List Place) (k : Cuttable g l) (cuts : List ℕ) where
       last-rest = ap (rest l from) (rest-end cuts i all) ∙ ap (λ (m : List Place). greatestLatency m ∷ []) (sym (take-all (length l - from) (drop from l) (omega (arith, length-drop from l))))
 
       pub cutting-end : (x : ℕ) → x ≡ latency (length l) → _≡_ {A = Sections} (record { refusal = record { number = 0; place = 0 }; latencies = set latencies i x; count = i + 1; sum = total + x }) (answered g l cuts)
-      unfolding sections.added
+      unfolding sum
       cutting-end x e =
           let s = stores (latency (length l)) [] last-rest in
           let n : i ≡ length cuts = omega (arith, w .few) in
@@ -136,7 +137,7 @@ module _ (g : ℕ) (l : List Place) (k : Cuttable g l) (cuts : List ℕ) where
           = take-all (suc i) (latenciesOf l cuts) (omega (arith, length-map (sectionsOf l cuts) greatestLatency, sections-count cuts 0 l)) in
           let stored : set latencies i x ≡ padded 12 0 (latenciesOf l cuts) = rw e (s .0 ∙ ap (padded 12 0) whole) in
           let counted : i + 1 ≡ length (sectionsOf l cuts) = omega (arith, sections-count cuts 0 l) in
-          let summed : total + x ≡ sumOf g l cuts = omega (arith, w .summed, e, ap sections.added last-rest, ap (λ (y : ℕ). y * g) (ap length (rest-end cuts i all))) in
+          let summed : total + x ≡ sumOf g l cuts = omega (arith, w .summed, e, ap sum last-rest, ap (λ (y : ℕ). y * g) (ap length (rest-end cuts i all))) in
           ap (λ (y : List ℕ). made y (i + 1) (total + x)) stored ∙ ap (λ (y : ℕ). made (padded 12 0 (latenciesOf l cuts)) y (total + x)) counted
           ∙ ap (made (padded 12 0 (latenciesOf l cuts)) (length (sectionsOf l cuts))) summed
         where

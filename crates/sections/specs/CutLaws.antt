@@ -10,10 +10,11 @@ use lib.Dec.{ltb, eqb}
 use lib.ListN.{length, take, drop, take-append-drop, length-drop}
 use lib.Seq.{length-take-le, take-add, drop-drop}
 use borrow.Author.Tests.{ltb-true, lt-ltb, eq-eqb, ne-eqb}
+use Rattle.ranges.specs.Entries.{sum}
 use Rattle.task.specs.declared.Place.{Place}
 use Rattle.schedule.specs.Schedules.{known}
 use Rattle.schedule.specs.Rule.{both}
-use Rattle.sections.specs.Sections.{partsFrom, risesTo, added}
+use Rattle.sections.specs.Sections.{partsFrom, risesTo}
 use Rattle.sections.specs.Uniform.{Uniform, uniform-front, uniform-rest}
 
 -- Each cut of `cuts` is one of `more`, in order: the form in which the induction goes along both lists.
@@ -116,14 +117,14 @@ further-longer (c ∷ cuts) (d ∷ more) f = elim (ℕ-discrete c d) [
 
 -- the sum from place `from` + 1 on, G being a figure of chains
 abbrev total : (List Place → ℕ) → ℕ → ℕ → List Place → List ℕ → ℕ
-total G gap from l cuts = added (map G (partsFrom from l cuts)) + length cuts * gap
+total G gap from l cuts = sum (map G (partsFrom from l cuts)) + length cuts * gap
 
 pub total-none : (G : List Place → ℕ) (gap from : ℕ) (l : List Place) → total G gap from l [] ≡ G l
-unfolding partsFrom added
+unfolding partsFrom sum
 total-none G gap from l = omega arith
 
 total-cut : (G : List Place → ℕ) (gap from c : ℕ) (l : List Place) (cuts : List ℕ) → total G gap from l (c ∷ cuts) ≡ G (take (c - from) l) + gap + total G gap c (drop (c - from) l) cuts
-unfolding partsFrom added
+unfolding partsFrom sum
 total-cut G gap from c l cuts = omega (arith, suc-mul (length cuts) gap)
 
 -- a figure of which one cut adds up to more than the whole has

@@ -5,6 +5,7 @@ use mathlib.Core.List.{List, [], _∷_, map}
 use lib.Dec.{ltb}
 use lib.ListN.{length, take, drop, replicate}
 use Rattle.refusal.specs.Refusals.{refusal, none}
+use Rattle.ranges.specs.Entries.{sum}
 use Rattle.task.specs.declared.Task.{Task}
 use Rattle.task.specs.declared.Place.{Place}
 use Rattle.chain.specs.declared.Chain.{Chain}
@@ -33,17 +34,13 @@ risesTo n from (c ∷ cuts) = ltb from c && (ltb c n && risesTo n c cuts)
 abbrev pub validCuts : List Place → List ℕ → Bool
 validCuts l cuts = risesTo (length l) 0 cuts
 
-unfoldable pub added : List ℕ → ℕ
-added [] = 0
-added (x ∷ l) = x + added l
-
 -- "each section is analysed as a chain with its own warm-up": the greatest latency of each, in order.
 abbrev pub latenciesOf : List Place → List ℕ → List ℕ
 latenciesOf l cuts = map greatestLatency (sectionsOf l cuts)
 
 -- "the sum of the greatest latencies plus one gap for each cut"
 abbrev pub sumOf : ℕ → List Place → List ℕ → ℕ
-sumOf gap l cuts = added (latenciesOf l cuts) + length cuts * gap
+sumOf gap l cuts = sum (latenciesOf l cuts) + length cuts * gap
 
 -- The answer: the sections' greatest latencies with 0 past them, their number, and the sum.
 abbrev pub answered : ℕ → List Place → List ℕ → Sections

@@ -1,4 +1,4 @@
--- Document 01, "Survey examples": A1 to A8, B, C, D and E, and the examples of orders 2, 5, 6 and 7 of document 02, as one computed list with one conclusion. Every row
+-- Document 01, "Survey examples": A1 to A8, B, C, D and E, and the examples of orders 2, 5 and 6 of document 02, with what order 7 says of A and B, as one computed list with one conclusion. Every row
 -- is computed from the definitions that the calls' contracts cite; a call's answer is turned into plain numbers: of a refusal its number and its place, of a
 -- success 0 and its values.
 use Prim.Native.Nat.{ℕ, zero, suc, _+_, _-_}
@@ -22,7 +22,7 @@ use Rattle.timing.specs.declared.Span.the-variants as span
 use Rattle.ranges.specs.Least.{leastFrom}
 use Rattle.timing.specs.WarmUp.{warmLast, warmAt, warmTick}
 use Rattle.timing.specs.Delay.{delayAt, firstAged, ageAt}
-use Rattle.chain.specs.Entries.{entries}
+use Rattle.ranges.specs.Entries.{entries, sum}
 use Rattle.timing.specs.Answers.{warmUpAfter, warmUpOf, spanAfter, delayOf, ageOf}
 use Rattle.table.specs.Anchors.{anchors}
 use Rattle.table.specs.WellFormed.{spaced, wellFormed}
@@ -42,7 +42,7 @@ use Rattle.figures.specs.Ticks.{total, everyAbove, longestRun, ticks}
 use Rattle.figures.specs.Figures.{delaySum, doubledArea, exceedance, greatestOf, lowOf, meanOf, exceedanceOf}
 use Rattle.histogram.specs.declared.Histogram.{Histogram}
 use Rattle.histogram.specs.declared.Histogram.the-variants as histogram
-use Rattle.histogram.specs.Histogram.{entriesFrom, histogramOf, countsOf}
+use Rattle.histogram.specs.Histogram.{histogramOf, countsOf}
 use Rattle.partition.specs.Lists.{rangeFrom, keep, fresh, dropRepeats}
 use Rattle.partition.specs.Partitions.{startOf, endOf, keeps, anchorsFrom}
 use Rattle.maker.specs.Making.{judged, madeAfter, madeOf, writtenAfter, writtenOf, startsOf, latenciesOf, told}
@@ -149,14 +149,14 @@ range c = (warmAt (tasksOf c) 0 + 1) ∷ (warmAt (tasksOf c) 0 + windows-of.star
 abbrev counts : Chain → ℕ → ℕ → List ℕ
 counts c b k = windowOf (tasksOf c) b k 1 ∷ windowOf (tasksOf c) b k 2 ∷ windowOf (tasksOf c) b k 3 ∷ []
 
--- The rest, and what stands in a list of n entries that held 7 before.
-abbrev histogramIs : Histogram → List ℕ
-histogramIs (histogram.Rest n) = 0 ∷ n ∷ []
-histogramIs (histogram.Refused r) = r .number ∷ r .place ∷ []
+-- The rest of a histogram.
+abbrev restIs : Histogram → List ℕ
+restIs (histogram.Rest n) = 0 ∷ n ∷ []
+restIs (histogram.Refused r) = r .number ∷ r .place ∷ []
 
-abbrev delaysOf : Chain → ℕ → ℕ → ℕ → ℕ → List ℕ
-delaysOf c g h width n =
-    histogramIs (histogramOf (starts c 2) (latencies c 2) g h width n) ++ countsOf (starts c 2) (latencies c 2) g h width (replicate n 7)
+-- That, and what then stands in a list of n entries that held 7.
+abbrev histogramIs : Chain → ℕ → ℕ → ℕ → ℕ → List ℕ
+histogramIs c g h width n = restIs (histogramOf (starts c 1) (latencies c 1) g h width n) ++ countsOf (starts c 1) (latencies c 1) g h width (replicate n 7)
 
 -- The number of sections, the sum, and the sections' latencies.
 abbrev sectionsIs : ℕ → Sections → List ℕ
@@ -203,7 +203,9 @@ computed =
     ∷ cut A [] ∷ cut A (1 ∷ []) ∷ cut (gapped 7 A) [] ∷ cut (gapped 7 A) (1 ∷ [])
     ∷ cut A (0 ∷ []) ∷ cut A (2 ∷ []) ∷ cut A (1 ∷ 1 ∷ [])
     -- order 7 of document 02: chain A's delays in steps of 5, in a list that holds them, in a shorter one and in an empty one; each delay by itself; all in one entry; a width of 0; and with an H that leaves no table
-    ∷ delaysOf A 2 12 5 4 ∷ delaysOf A 2 12 5 3 ∷ delaysOf A 2 12 5 0 ∷ delaysOf A 2 12 1 20 ∷ delaysOf A 2 12 18446744073709551615 2 ∷ delaysOf A 2 12 0 2 ∷ delaysOf A 2 8 0 2
+    ∷ histogramIs A 2 12 5 4 ∷ histogramIs A 2 12 5 3 ∷ histogramIs A 2 12 5 0 ∷ histogramIs A 2 12 1 20 ∷ histogramIs A 2 12 18446744073709551615 2 ∷ histogramIs A 2 12 0 2 ∷ histogramIs A 2 8 0 2
+    -- and B's, which begin at tick 5
+    ∷ histogramIs B 1 10 4 4
     -- D
     ∷ warm D ∷ ticksOf (delayOf D 90) ∷ ticksOf (delayOf D 89)
     -- E: no place, 13 places, H at its limit and above
@@ -211,7 +213,7 @@ computed =
     ∷ verdictIs (verdictOf (E 768)) ∷ verdictIs (verdictOf (E 769))
     ∷ []
 
--- What the documents say, in the same order; the warm-ups of chain C with a gap follow from order 5, chain A with gap 7 from orders 5 and 6, and the delays of chain A from order 7, which do not name them.
+-- What the documents say, in the same order; the warm-ups of chain C with a gap follow from order 5, chain A with gap 7 from orders 5 and 6, and the histograms of A and B from order 7, which do not name them.
 abbrev pub said : List (List ℕ)
 said =
     (0 ∷ 12 ∷ 0 ∷ 0 ∷ 1 ∷ [])
@@ -235,11 +237,12 @@ said =
     ∷ (17 ∷ 0 ∷ []) ∷ (17 ∷ 0 ∷ []) ∷ (17 ∷ 0 ∷ [])
     ∷ (0 ∷ 0 ∷ 0 ∷ 0 ∷ 6 ∷ 6 ∷ []) ∷ (0 ∷ 6 ∷ 0 ∷ 0 ∷ 6 ∷ []) ∷ (0 ∷ 12 ∷ []) ∷ (0 ∷ 0 ∷ 0 ∷ 0 ∷ 0 ∷ 0 ∷ 0 ∷ 0 ∷ 0 ∷ 0 ∷ 0 ∷ 0 ∷ 0 ∷ 1 ∷ 1 ∷ 2 ∷ 2 ∷ 2 ∷ 2 ∷ 1 ∷ 1 ∷ 0 ∷ [])
     ∷ (0 ∷ 0 ∷ 12 ∷ 0 ∷ []) ∷ (18 ∷ 0 ∷ 7 ∷ 7 ∷ []) ∷ (14 ∷ 0 ∷ 7 ∷ 7 ∷ [])
+    ∷ (0 ∷ 0 ∷ 0 ∷ 4 ∷ 4 ∷ 2 ∷ [])
     ∷ (0 ∷ 10 ∷ 90 ∷ 9 ∷ 0 ∷ []) ∷ (0 ∷ 16 ∷ []) ∷ (12 ∷ 0 ∷ [])
     ∷ (8 ∷ 0 ∷ []) ∷ (8 ∷ 0 ∷ [])
     ∷ (0 ∷ 60000000 ∷ []) ∷ (7 ∷ 0 ∷ [])
     ∷ []
 
 pub survey : computed ≡ said
-unfolding computed withinLimits earliestFrom latestOver forwardLink backwardLink euclid gcdOf lcmOf forwardBy onLatest backwardBy hyperFrom firstFault hyperVerdict afterGap verdictFor leastFrom warmLast warmAt warmTick delayAt firstAged ageAt entries warmUpAfter spanAfter anchors spaced wellFormed read.reading read.delayAt read.lastAt greatest lowTo low total everyAbove longestRun ticks delaySum doubledArea exceedance greatestOf lowOf meanOf exceedanceOf rangeFrom keep fresh dropRepeats startOf endOf keeps anchorsFrom judged madeAfter writtenAfter spanOf misses missesIn largest mostMisses earliestJob windowsAfter padded sections.partsFrom sections.risesTo sections.added sections.sectionsAfter greatestLatency entriesFrom histogramOf countsOf
+unfolding computed withinLimits earliestFrom latestOver forwardLink backwardLink euclid gcdOf lcmOf forwardBy onLatest backwardBy hyperFrom firstFault hyperVerdict afterGap verdictFor leastFrom warmLast warmAt warmTick delayAt firstAged ageAt entries warmUpAfter spanAfter anchors spaced wellFormed read.reading read.delayAt read.lastAt greatest lowTo low total everyAbove longestRun ticks delaySum doubledArea exceedance greatestOf lowOf meanOf exceedanceOf rangeFrom keep fresh dropRepeats startOf endOf keeps anchorsFrom judged madeAfter writtenAfter spanOf misses missesIn largest mostMisses earliestJob windowsAfter padded sections.partsFrom sections.risesTo sum sections.sectionsAfter greatestLatency histogramOf countsOf
 survey = refl

@@ -9,7 +9,7 @@ use lib.Seq.{getD-set-same, getD-set-other}
 use borrow.Author.Tests.{lt-ltb, le-ltb}
 use Rattle.task.specs.declared.Place.{Place}
 use Rattle.task.specs.declared.Job.{Job}
-use Rattle.chain.specs.Entries.{entries-are}
+use Rattle.ranges.specs.Entries.{entries-are}
 use Rattle.timing.specs.WarmUp.{warmAt}
 use Rattle.timing.specs.Answers.{warmEntry, warmEntries}
 

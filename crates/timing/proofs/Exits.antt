@@ -17,7 +17,7 @@ use Rattle.task.specs.declared.Place.{Place}
 use Rattle.task.specs.declared.Job.{Job}
 use Rattle.task.specs.declared.Tick.{Tick}
 use Rattle.timing.specs.declared.WarmUp.{WarmUp}
-use Rattle.chain.specs.Entries.{entries-at}
+use Rattle.ranges.specs.Entries.{entries-at}
 use Rattle.chain.specs.Checks.{Sound}
 use Rattle.timing.specs.WarmUp.{warmAt, warmTick}
 use Rattle.timing.specs.Answers.{upperTick, warmEntry, warmEntries, warmUpAfter, tickRefusal, spanAfter}

@@ -15,7 +15,7 @@ use Rattle.timing.specs.declared.WarmUp.{WarmUp}
 use Rattle.timing.specs.declared.Span.{Span}
 use Rattle.timing.specs.declared.Span.the-variants.{Ticks, Refused}
 use Rattle.chain.specs.Chains.{placed, tasksOf}
-use Rattle.chain.specs.Entries.{entries}
+use Rattle.ranges.specs.Entries.{entries}
 use Rattle.timing.specs.WarmUp.{warmAt, warmTick}
 use Rattle.timing.specs.Delay.{delayAt, firstAged, ageAt}
 use Rattle.chain.specs.Checks.{verdictOf, verdictIn}

@@ -21,7 +21,7 @@ use Rattle.chain.specs.declared.Verdict.{Verdict}
 use Rattle.chain.specs.declared.Verdict.the-variants as verdict
 use Rattle.chain.specs.Chains.{placed, at, lastPlace, forwardBy, backwardBy, onLatest, walk, back, jobOf}
 use Rattle.chain.specs.Placed.{at-placed}
-use Rattle.chain.specs.Entries.{entries, entries-length, entries-at, entries-are}
+use Rattle.ranges.specs.Entries.{entries, entries-length, entries-at, entries-are}
 use Rattle.chain.specs.Checks.{verdictIn}
 use Rattle.chain.specs.WithoutGap.{taskAt, readPlain, writePlain, earliestPlain, latestPlain, forwardWay, backwardWay, verdictPlain, forward-without, backward-without, verdict-without}
 use Rattle.chain.proofs.CheckLaws.{accepted-in}

@@ -1,4 +1,4 @@
-use Rattle.capi_bookings.proofs.Gives.{gives-both, gives-refusal, code-fits}
+use Rattle.capi_bookings.proofs.Gives.{gives-both, refuses, code-fits}
 use borrow.Author.Needs.{needs}
 use Rattle.capi_bookings.proofs.mo_bookings.Statement.{statement}
 use Rattle.capi_bookings.proofs.mo_bookings.Tie as tie
@@ -25,7 +25,7 @@ returns c =
 
 returns-2 : tie.Need-returns-2
 returns-2 c =
-    gives-refusal _ _ _ _ _ _ (c .before .before .before .before .before .before .schedule-from .ensures) (c .before .before .before .before .before .pair-of .ensures) _ _ (c .before .before .before .b2 .given .1) (c .code .ensures)
+    refuses _ _ _ _ _ _ (c .before .before .before .before .before .before .schedule-from .ensures) (c .before .before .before .before .before .pair-of .ensures) _ _ (c .before .before .before .b2 .given .1) (c .code .ensures)
 
 pub mo-bookings-spec : {M : Type 1} → statement M
 mo-bookings-spec =

@@ -2,7 +2,7 @@
 use mathlib.Core.Path.{refl}
 use borrow.Author.Needs.{needs}
 use Rattle.capi_figures.specs.Calls.{exceedanceNumbers}
-use Rattle.refusal.specs.Arms.{gives, gives-refusal, fits}
+use Rattle.refusal.proofs.Arms.{gives, gives-refusal, fits}
 use Rattle.capi_figures.proofs.Small.{exceedance-small}
 use Rattle.capi_figures.proofs.mo_exceedance.Statement.{statement}
 use Rattle.capi_figures.proofs.mo_exceedance.Tie as tie

@@ -2,7 +2,7 @@
 use mathlib.Core.Path.{refl}
 use borrow.Author.Needs.{needs}
 use Rattle.capi_figures.specs.Calls.{greatestNumbers}
-use Rattle.refusal.specs.Arms.{gives, gives-refusal, fits}
+use Rattle.refusal.proofs.Arms.{gives, gives-refusal, fits}
 use Rattle.capi_figures.proofs.Small.{greatest-small}
 use Rattle.capi_figures.proofs.mo_greatest.Statement.{statement}
 use Rattle.capi_figures.proofs.mo_greatest.Tie as tie

@@ -2,7 +2,7 @@
 use mathlib.Core.Path.{refl}
 use borrow.Author.Needs.{needs}
 use Rattle.capi_figures.specs.Calls.{throughputNumbers}
-use Rattle.refusal.specs.Arms.{gives, gives-refusal, fits}
+use Rattle.refusal.proofs.Arms.{gives, gives-refusal, fits}
 use Rattle.capi_figures.proofs.Small.{throughput-small}
 use Rattle.capi_figures.proofs.mo_throughput.Statement.{statement}
 use Rattle.capi_figures.proofs.mo_throughput.Tie as tie

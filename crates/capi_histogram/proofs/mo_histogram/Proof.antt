@@ -1,6 +1,6 @@
 -- `capi_histogram::mo_histogram` meets its contract: each arm of the answer gives its numbers.
 use mathlib.Core.Path.{refl}
-use Rattle.refusal.specs.Arms.{gives, gives-refusal, fits}
+use Rattle.refusal.proofs.Arms.{gives, gives-refusal, fits}
 use Rattle.capi_histogram.specs.Calls.{histogramNumbers}
 use Rattle.capi_histogram.proofs.Small.{histogram-small}
 use borrow.Author.Needs.{needs}

@@ -9,7 +9,7 @@ use Rattle.table.specs.WellFormed.{nextStart}
 use Rattle.table.specs.BothWays.{Fitting, well-place}
 use Rattle.figures.specs.ByAnchors.{segments}
 use Rattle.figures.proofs.Folds.{fold-on, fold-end}
-use Rattle.histogram.specs.Marking.{withAnchor, length-range}
+use Rattle.histogram.specs.Differences.{withAnchor, length-range}
 use Rattle.histogram.proofs.add_anchors.Statement.{statement}
 use Rattle.histogram.proofs.add_anchors.Tie as tie
 
@@ -37,14 +37,14 @@ loop-holds c = (omega arith, refl, refl)
 distance-at-requires : tie.Need-distance-at-requires Inv-loop μ-loop
 distance-at-requires c κs = (c .loop-test .taken, c .before .before .before .before .before .before .pre .0 .fits, omega (arith, place c))
 
-mul-top : tie.Need-mul-top Inv-loop μ-loop
-mul-top c = omega arith
+mul-past : tie.Need-mul-past Inv-loop μ-loop
+mul-past c = omega arith
 
-shared-slice-read-top : tie.Need-shared-slice-read-top Inv-loop μ-loop
-shared-slice-read-top c = omega arith
+shared-slice-read-past : tie.Need-shared-slice-read-past Inv-loop μ-loop
+shared-slice-read-past c = omega arith
 
-add-top : tie.Need-add-top Inv-loop μ-loop
-add-top c = omega (arith, place (c .before .before))
+add-past : tie.Need-add-past Inv-loop μ-loop
+add-past c = omega (arith, place (c .before .before))
 
 sub-add-range : tie.Need-sub-add-range Inv-loop μ-loop
 sub-add-range c = omega (arith, place (c .before .before .before), c .before .before .distance-at .ensures)
@@ -84,9 +84,9 @@ add-anchors-spec =
     add-end
     loop-holds
     distance-at-requires
-    mul-top
-    shared-slice-read-top
-    add-top
+    mul-past
+    shared-slice-read-past
+    add-past
     sub-add-range
     add-range-requires
     add-i

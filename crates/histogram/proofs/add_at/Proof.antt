@@ -3,7 +3,7 @@ use native.Mathlib.Omega.{arith}
 use mathlib.Core.Path.{sym, ap}
 use lib.ListN.{set}
 use lib.Seq.{set-out}
-use Rattle.histogram.specs.Marking.{addedAt}
+use Rattle.histogram.specs.Differences.{addedAt}
 use borrow.Author.Needs.{needs}
 use Rattle.histogram.proofs.add_at.Statement.{statement}
 use Rattle.histogram.proofs.add_at.Tie as tie

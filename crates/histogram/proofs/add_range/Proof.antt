@@ -1,6 +1,6 @@
 -- `histogram::add_range` meets its contract.
 use native.Mathlib.Nat.{le-of-lt, mod-lt}
-use Rattle.histogram.proofs.Ranges.{smaller-part, range-in}
+use Rattle.histogram.proofs.Exits.{smaller-part, range-in}
 use borrow.Author.Needs.{needs}
 use Rattle.histogram.proofs.add_range.Statement.{statement}
 use Rattle.histogram.proofs.add_range.Tie as tie

@@ -4,7 +4,7 @@ use native.Mathlib.Omega.{arith}
 use borrow.Author.Tests.{not-true, not-false}
 use Rattle.table.specs.WellFormed.{WellFormed}
 use Rattle.table.specs.BothWays.{well}
-use Rattle.histogram.proofs.Ranges.{not-formed, no-width, counted}
+use Rattle.histogram.proofs.Exits.{not-formed, no-width, counted}
 use borrow.Author.Needs.{needs}
 use Rattle.histogram.proofs.histogram_of.Statement.{statement}
 use Rattle.histogram.proofs.histogram_of.Tie as tie

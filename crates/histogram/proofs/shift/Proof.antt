@@ -1,6 +1,6 @@
 -- `histogram::shift` meets its contract.
 use mathlib.Core.Path.{ap, _∙_}
-use Rattle.histogram.specs.Marking.{addedAt}
+use Rattle.histogram.specs.Differences.{addedAt}
 use borrow.Author.Needs.{needs}
 use Rattle.histogram.proofs.shift.Statement.{statement}
 use Rattle.histogram.proofs.shift.Tie as tie

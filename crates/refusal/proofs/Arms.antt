@@ -1,4 +1,5 @@
--- Calls for C give an answer as numbers, the first of which is its code. What each arm of a match on the answer gives, whatever the answer is; and that a small code is a refusal that fits one number.
+-- Calls for C give an answer as numbers, the first of which is its code. What each arm of a match on the answer gives, whatever the answer is; and a refusal whose code is below 256
+-- fits one number.
 use Prim.Native.Nat.{ℕ, _+_, _*_, _≤_, _<_}
 use native.Mathlib.Omega.{arith}
 use mathlib.Core.Path.{_≡_, sym, ap, _∙_}

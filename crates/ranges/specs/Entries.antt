@@ -1,8 +1,8 @@
--- A list from a rule, as the entries of an array.
+-- A list from a rule, as the entries of an array, and the sum of a list.
 use Prim.Native.Nat.{ℕ, zero, suc, _+_, _≤_, _<_}
 use native.Mathlib.Omega.{arith}
 use mathlib.Core.Path.{_≡_, refl, sym, ap, _∙_}
-use mathlib.Core.List.{List, [], _∷_, map}
+use mathlib.Core.List.{List, [], _∷_, _++_, map}
 use lib.ListN.{length, getD, take}
 use lib.Seq.{ext-getD}
 
@@ -10,6 +10,11 @@ use lib.Seq.{ext-getD}
 unfoldable pub entries : {A : Type 0} → (ℕ → A) → ℕ → ℕ → List A
 entries f p zero = []
 entries f p (suc n) = f p ∷ entries f (suc p) n
+
+-- All entries of a list together.
+unfoldable pub sum : List ℕ → ℕ
+sum [] = 0
+sum (x ∷ l) = x + sum l
 
 -- two rules that agree at the first k numbers have the same first k entries
 pub entries-front : {A : Type 0} (f g : ℕ → A) (k p n : ℕ) → ((i : ℕ) → p ≤ i → i < p + k → f i ≡ g i) → take k (entries f p n) ≡ take k (entries g p n)
@@ -46,3 +51,24 @@ module _ {A : Type 0} (f : ℕ → A) where
     -- a list whose entries follow the rule
     pub entries-are : (l : List A) (n : ℕ) → length l ≡ n → ((i : ℕ) → i < n → f i ≡ getD l i d) → entries f 0 n ≡ l
     entries-are l n e each = ext-getD d (entries f 0 n) l (entries-length 0 n ∙ sym e) (λ i h. entries-at n i (omega (arith, entries-length 0 n)) ∙ each i (omega (arith, entries-length 0 n)))
+
+  -- one entry more
+  pub entries-more : (p n : ℕ) → entries f p (suc n) ≡ entries f p n ++ (f (p + n) ∷ [])
+  unfolding entries
+  entries-more p zero = let e : p + 0 ≡ p = omega arith in rw e
+  entries-more p (suc n) =
+      let e : suc p + n ≡ p + suc n = omega arith in
+      let h = entries-more (suc p) n in
+      ap (λ (l : List A). f p ∷ l) (rw e at h)
+
+-- two rules that agree have the same entries
+pub entries-same : {A : Type 0} (f g : ℕ → A) (p n : ℕ) → ((i : ℕ) → p ≤ i → i < p + n → f i ≡ g i) → entries f p n ≡ entries g p n
+unfolding entries
+entries-same f g p zero h = refl
+entries-same f g p (suc n) h = rw (h p (omega arith) (omega arith), entries-same f g (suc p) n (λ i a b. h i (omega arith) (omega arith)))
+
+-- the sum with one entry more
+pub entries-sum : (f : ℕ → ℕ) (p n : ℕ) → sum (entries f p (suc n)) ≡ sum (entries f p n) + f (p + n)
+unfolding entries sum
+entries-sum f p zero = let e : p + 0 ≡ p = omega arith in rw e (omega arith)
+entries-sum f p (suc n) = let e : p + suc n ≡ suc p + n = omega arith in rw e (omega (arith, entries-sum f (suc p) n))
