@@ -57,15 +57,15 @@ parent.document.documentElement.setAttribute('data-' + WHERE, JSON.stringify(fou
 CROWDED = [2500, 8000, 100000, 40000, 5000, 10000, 20000, 50000]
 
 
-def crowded():
-    """The most that a page can hold: 32 tasks with long numbers and times, four chains of twelve places."""
+def crowded(*firsts):
+    """The most that a page can hold: 32 tasks with long numbers and times, chains of twelve places from these tasks on."""
     lines = [f"task {65504 + i} period {CROWDED[i % 8]} duration {CROWDED[i % 8] * (i % 3 + 1) // 2 + 123} phase {i * 70021 % 999999}" for i in range(32)]
-    lines += ["chain " + " ".join(str(65504 + i) for i in range(first, first + 12)) for first in (0, 5, 12, 20)]
+    lines += ["chain " + " ".join(str(65504 + i) for i in range(first, first + 12)) for first in firsts]
     return "\n".join([*lines, "gap 999", ""])
 
 
 TEXTS = {
-    "crowded": crowded(),
+    "crowded": crowded(0, 5, 12, 20), "two-crowded": crowded(0, 20),
     # More anchors than a report holds, beside a chain with which there is no common hyperperiod.
     "many-anchors": "".join(f"task {i} period {t} duration 3 phase 0\n" for i, t in enumerate((47, 16, 9, 5, 7, 11, 23, 997, 1000), start=1)) + "chain 1 2 3 4 5 6 7\nchain 8 9\n",
     # The longest latency there is, so the longest numbers at the lines of a curve, and tasks that fill no place.
@@ -78,13 +78,14 @@ TEXTS = {
     "three": "task 1 period 33ms duration 33ms phase 0\ntask 2 period 400ms duration 400ms phase 7us\ntask 3 period 7ms duration 1us phase 0\nchain 1 2\nchain 3 1\nchain 2 3 3 3\n",
 }
 EXAMPLES = ("chain-a", "two-boards", "waters19-c1", "refused")
-# Pages on which something is refused: the file, its first chain, a table for which a report has no room, or two chains side by side. With the first two there is no curve.
-WITHOUT_CURVE = ("no-schedule", "refused", "four-refused")
-REFUSED = (*WITHOUT_CURVE, "many-anchors", "three", "three-many")
+# Pages on which something is refused: the file, its first chain, a table for which a report has no room, or two chains side by side. With the first two there is no picture.
+WITHOUT_PICTURES = ("no-schedule", "refused", "four-refused")
+REFUSED = (*WITHOUT_PICTURES, "many-anchors", "three", "three-many")
 
 
 def pages(folder):
-    """Pages in this folder: of the examples, of crowded schedules, and of a file that is no schedule."""
+    """Pages in this folder: of the examples, of crowded schedules, and of a file that is no schedule; and pictures of the first chain that stand alone: the curve, the histogram in the page's
+    steps, and one in steps far above every delay, whose marks have labels as long as there can be."""
     command = os.path.join(TOP, "meshorchard")
     files = {name: os.path.join(TOP, "examples", name + ".schedule") for name in EXAMPLES}
     for name, text in TEXTS.items():
@@ -94,12 +95,14 @@ def pages(folder):
     with open(files["no-schedule"], "wb") as out:
         out.write(bytes(40))
     for name, file in files.items():
-        out, picture = os.path.join(folder, name + ".html"), os.path.join(folder, name + ".svg")
+        out, pictures = os.path.join(folder, name + ".html"), {}
         status = subprocess.run([command, "page", file, "-o", out], stderr=subprocess.DEVNULL).returncode
-        drawn = name not in WITHOUT_CURVE
-        if drawn:
-            subprocess.run([command, "curve", file, "-o", picture], check=True)
-        yield name, out, picture if drawn else None, status
+        if name not in WITHOUT_PICTURES:
+            first, following = re.search(r'data-from="(\d+)" data-to="(\d+)"', read(out)).groups()
+            for kind, words in {"curve": ["curve"], "histogram": ["histogram", "--width", str(int(following) - int(first))], "widest": ["histogram", "--width", str(16 * 10**18)]}.items():
+                pictures[kind] = os.path.join(folder, f"{name}-{kind}.svg")
+                subprocess.run([command, *words, file, "-o", pictures[kind]], check=True)
+        yield name, out, pictures, status
 
 
 def run(browser, folder, *words):
@@ -113,17 +116,17 @@ def read(path):
         return file.read()
 
 
-def measured(browser, folder, text, widths, *words):
-    """What a page measures of itself in each width."""
+def measured(browser, folder, views, *words):
+    """What each view measures of itself: a text of a page in some width."""
     frames = []
-    for where, width in widths.items():
+    for where, (width, text) in views.items():
         inner = text.replace("</body>", f"<script>const WHERE = '{where}';{MEASURE}</script></body>")
         frames.append(f'<iframe style="border:0;width:{width}px;height:900px" srcdoc="{html.escape(inner)}"></iframe>')
     around = os.path.join(folder, "around.html")
     with open(around, "w", encoding="utf-8") as out:
         out.write(f"<!doctype html><meta charset=utf-8><body>{''.join(frames)}</body>")
     dump = run(browser, folder, "--dump-dom", *words, f"file://{around}")
-    found = {where: re.search(f'data-{where}="([^"]*)"', dump) for where in widths}
+    found = {where: re.search(f'data-{where}="([^"]*)"', dump) for where in views}
     return {where: json.loads(html.unescape(each[1])) if each else None for where, each in found.items()}
 
 
@@ -135,11 +138,11 @@ def sheets(browser, folder, page):
         return len(re.findall(rb"/Type\s*/Page\b", paper.read()))
 
 
-def faults(browser, folder, text, widths):
-    """What is not as it should be with a page in these widths."""
+def faults(browser, folder, views):
+    """What is not as it should be with these views."""
     papers = set()
     for colour, words in (("light", ()), ("dark", (DARK,))):
-        for where, found in measured(browser, folder, text, widths, *words).items():
+        for where, found in measured(browser, folder, views, *words).items():
             if found is None:
                 yield f"{where}, {colour}: not measured"
                 continue
@@ -155,16 +158,17 @@ def faults(browser, folder, text, widths):
         yield f"light and dark have the paper {papers}"
 
 
-def page_faults(browser, folder, page, picture):
-    """What is not as it should be with a page, and with the curve that stands alone, in its own size."""
-    yield from faults(browser, folder, read(page), {"laptop": LAPTOP, "phone": PHONE})
+def page_faults(browser, folder, page, pictures):
+    """What is not as it should be with a page, and with the pictures that stand alone, in their own size. What is drawn for paper alone is shown beside the rest on the laptop."""
+    text = read(page)
+    views = {"laptop": (LAPTOP, text.replace('class="picture sheet"', 'class="picture"')), "phone": (PHONE, text)}
+    style = "body{margin:0;background:#fff}@media (prefers-color-scheme:dark){body{background:#15191e}}"
+    for kind, picture in pictures.items():
+        views[kind] = 900, f"<!doctype html><meta charset=utf-8><style>{style}</style><body>{read(picture)}</body>"
+    yield from faults(browser, folder, views)
     count = sheets(browser, folder, page)
     if count != 1:
         yield f"{count} sheets of paper"
-    if picture:
-        style = "body{margin:0;background:#fff}@media (prefers-color-scheme:dark){body{background:#15191e}}"
-        text = f"<!doctype html><meta charset=utf-8><style>{style}</style><body>{read(picture)}</body>"
-        yield from faults(browser, folder, text, {"curve": 900})
 
 
 def keep(browser, folder, name, page, pictures):
@@ -189,8 +193,8 @@ def main():
         sys.exit(1)
     passed = failed = 0
     with tempfile.TemporaryDirectory() as folder:
-        for name, page, picture, status in pages(folder):
-            wrong = list(page_faults(browser, folder, page, picture))
+        for name, page, pictures, status in pages(folder):
+            wrong = list(page_faults(browser, folder, page, pictures))
             wrong += [] if status == (1 if name in REFUSED else 0) else [f"status {status}"]
             print(f"{name}: {'as it should be' if not wrong else '; '.join(wrong)}", flush=True)
             passed, failed = (passed, failed + 1) if wrong else (passed + 1, failed)

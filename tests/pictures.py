@@ -1,12 +1,13 @@
-"""The curve and the page of ./meshorchard: what is drawn and said against the reference.
+"""The curve, the histogram and the page of ./meshorchard: what is drawn and said against the reference.
 
     python3 tests/pictures.py [--count FACTOR] [--seed SEED]
 
 Positions are read off the pictures as a reader would: the axes give the scale, by their marks and labels. At every pixel of a curve the delay that is drawn there is compared
-with that of the walk at the pixel's tick. The last line is 'N passed, M failed', in groups.
+with that of the walk at the pixel's tick, and every bar of a histogram with the reference's count. The last line is 'N passed, M failed', in groups.
 """
 import argparse
 import bisect
+import dataclasses
 import glob
 import math
 import os
@@ -25,7 +26,7 @@ sys.path[:0] = [HERE, os.path.join(TOP, "reference")]
 import inputs
 import meshorchard_reference as reference
 import proved
-from meshorchard import Chain, Schedule, analysis, calls, curve, page, timeline
+from meshorchard import Chain, Schedule, analysis, calls, curve, drawing, histogram, page, timeline
 
 GROUPS = []
 SVG = "{http://www.w3.org/2000/svg}"
@@ -72,7 +73,8 @@ class Scale:
     """From ticks to a coordinate, by two marks of an axis and their labels."""
 
     def __init__(self, marks, unit):
-        ticks = {"µs": 1, "ms": 1000}[unit]
+        # What is no time has no unit.
+        ticks = {"µs": 1, "ms": 1000, None: 1}[unit]
         found = sorted({(Fraction(label.replace(",", "")) * ticks, place) for label, place in marks})
         (first, start), (last, end) = (found[0], found[-1]) if len(found) > 1 else (found[0], found[0])
         same(len(found) > 1, True, "two marks on an axis", marks)
@@ -84,17 +86,17 @@ class Scale:
         return self.start + float(value - self.first) * self.each
 
 
-def scales(root):
-    """The scales across and up of a curve: each grid line has its label after it."""
+def scales(root, below="press at", beside="delay"):
+    """The scales across and up of a picture, by what stands at its axes: each grid line has its label after it."""
     elements = list(root)
     across, up = [], []
     for mark, label in zip(elements, elements[1:]):
         if mark.get("class") == "hair grid-line":
             (x, y), (other, _) = points(mark)
             (across if x == other else up).append((label.text, x if x == other else y))
-    units = [re.search(r"(press at|delay) \((.*)\)", text.text or "") for text in root.iter(f"{SVG}text")]
+    units = [re.fullmatch(rf"({below}|{beside})(?: \((.*)\))?", text.text or "") for text in root.iter(f"{SVG}text")]
     names = {found[1]: found[2] for found in units if found}
-    return Scale(across, names["press at"]), Scale(up, names["delay"])
+    return Scale(across, names[below]), Scale(up, names[beside])
 
 
 # ---- The curve
@@ -240,7 +242,7 @@ def random_curves(r, factor):
         tasks = r.choice([inputs.chain, inputs.cut_chain, inputs.far_chain])(r)
         tasks, gap = inputs.linked(r, tasks)
         if quick(tasks, gap):
-            root = drawn(tasks, gap, (curve.ALONE, curve.WIDE, curve.NARROW)[i % 3])
+            root = drawn(tasks, gap, (drawing.ALONE, drawing.WIDE, drawing.NARROW, page.SHEET)[i % 4])
             kinds.add("columns" if of_class(root, "column") else "falls")
             yield check_curve(root, tasks, gap)
     same(kinds, {"columns", "falls"}, "kinds of curves")
@@ -252,10 +254,137 @@ def crowded_curves(r, factor):
     found = set()
     for periods in ((997, 1000), (1023, 1024), (1024, 1025), (1025, 1026), (1999, 2000), (47, 16, 9, 5, 7), (1, 1), (1,), (2, 3)):
         tasks, gap = [(t, r.randint(1, 3 * t), r.randint(0, 50)) for t in periods], r.choice([0, 7])
-        root = drawn(tasks, gap, curve.ALONE)
+        root = drawn(tasks, gap, drawing.ALONE)
         found.add(min(len(reference.anchors(tasks, gap, cut(tasks))), 1025) > 1024)
         yield check_curve(root, tasks, gap)
     same(found, {True, False}, "tables of more than 1,024 anchors, and others")
+
+
+# ---- How often each delay occurs
+
+def table_of(tasks, gap):
+    """The table of a chain as the reference has it."""
+    anchors = reference.anchors(tasks, gap, cut(tasks))
+    return [start for start, _ in anchors], [latency for _, latency in anchors], len(anchors), reference.hyperperiod(tasks)
+
+
+def counted(table, width):
+    """The counts of a histogram from the first with ticks to the last, with the number of the first, by the reference."""
+    answer, counts, rest = reference.histogram(*table, width, reference.greatest(*table)[1] // width + 1)
+    same((answer, rest), ("ok", 0), "a histogram up to the greatest delay", table, width)
+    occurring = [i for i, count in enumerate(counts) if count]
+    return occurring[0], counts[occurring[0]:occurring[-1] + 1]
+
+
+def bars_of(table, width):
+    """How many bars a histogram has from the least delay to the greatest, and how many counts its list."""
+    least, top = reference.low(*table)[1] + 1, reference.greatest(*table)[1]
+    return top // width - least // width + 1, top // width + 1
+
+
+def told(ticks):
+    """A time as a title tells it."""
+    return f"{ticks:,} µs" if ticks < 1000 else f"{ticks:,} µs ({shown(ticks)})"
+
+
+def share(count, h):
+    """A share in percent, to a tenth, marked where it is rounded."""
+    tenths = math.floor(Fraction(1000 * count, h) + Fraction(1, 2))
+    return f"{'' if 1000 * count == tenths * h else '≈ '}{tenths // 10}.{tenths % 10} %"
+
+
+def check_bars(root, first, counts, width, h, across, up):
+    """The bars of a histogram: one for each entry, in a row, as high as its count."""
+    bars = [bar for bar in of_class(root, "delay") if bar.get("data-count")]
+    same([(int(bar.get("data-from")), int(bar.get("data-to")), int(bar.get("data-count"))) for bar in bars],
+         [((first + i) * width, (first + i + 1) * width, count) for i, count in enumerate(counts)], "the bars of a histogram", width)
+    bottom = up(0)
+    for i, (bar, count) in enumerate(zip(bars, counts), start=first):
+        begin, end = across(i * width), across((i + 1) * width)
+        near(float(bar.get("x")), begin, "the left edge of a bar", i, width)
+        # Between two bars there is a hair's breadth where there is room, and a single tick can still be seen.
+        if abs(end - begin - 4) > NEAR:
+            near(float(bar.get("width")), end - begin - 1 if end - begin > 4 else end - begin, "the breadth of a bar", i, width)
+        near(float(bar.get("height")), max(1, bottom - up(count)) if count else 0, "the height of a bar", i, width, count)
+        near(float(bar.get("y")) + float(bar.get("height")), bottom, "the foot of a bar", i, width)
+        ticks = "1 tick" if count == 1 else f"{count:,} ticks"
+        same(title(bar), f"delays from {told(i * width)} to below {told((i + 1) * width)}: {ticks}, {share(count, h)}", "the title of a bar")
+    # What is too low to be hovered over has its title up to 14 pixels as well.
+    reached = [bar for bar in of_class(root, "reach")]
+    low = [bar for bar in bars if float(bar.get("height")) < 14]
+    same([(title(bar), bar.get("x"), bar.get("width"), bar.get("height")) for bar in reached], [(title(bar), bar.get("x"), bar.get("width"), "14") for bar in low], "low bars")
+    return len(bars)
+
+
+def check_histogram(root, tasks, gap, width):
+    """Everything in one histogram. How many bars were looked at."""
+    table = table_of(tasks, gap)
+    first, counts = counted(table, width)
+    across, up = scales(root, "delay", "ticks")
+    (level,) = [line for line in root.iter(f"{SVG}path") if line.get("data-level")]
+    (x, _), (other, _) = points(level)
+    mean = Fraction(*reference.mean(*table)[1:])
+    same((level.get("data-level"), x), ("mean", other), "the mean's line")
+    near(x, across(mean), "the mean", tasks, gap)
+    same([text.text for text in of_class(root, "mean")], [f"mean {shown(mean)}"], "what is said of the mean")
+    # Nothing lies outside of the axes, the mean neither.
+    (left, top), (_, bottom), (right, _) = points(of_class(root, "faint-line")[0])
+    bars = of_class(root, "delay")
+    same(left - NEAR <= min(x, float(bars[0].get("x"))) and float(bars[-1].get("x")) + float(bars[-1].get("width")) <= right + NEAR, True, "the ends of the axis", left, right)
+    same(all(top - NEAR <= float(bar.get("y")) for bar in bars), True, "the top of the axis", top)
+    near(bottom, up(0), "the foot of the axis")
+    return check_bars(root, first, counts, width, table[3], across, up)
+
+
+def some_width(r, tasks, gap):
+    """A width with few bars or with many, but with no more than the command shows."""
+    table = table_of(tasks, gap)
+    low, top = reference.low(*table)[1], reference.greatest(*table)[1]
+    widths = [1, top, top + 1, 2 * top, *[max(1, (top - low) // parts) for parts in (1, 2, 5, 20, 60, 150, 250, 350, 480, 499)]]
+    return r.choice([width for width in widths if bars_of(table, width)[0] <= 500 and bars_of(table, width)[1] <= 2**20])
+
+
+@group
+def example_histograms(r, factor):
+    """histograms of the examples, by the command"""
+    with tempfile.TemporaryDirectory() as folder:
+        out = os.path.join(folder, "out.svg")
+        for name, chains, _, gap in schedules():
+            for number, tasks in enumerate(chains, start=1):
+                if reference.check_chain(tasks, gap)[0] != "ok":
+                    continue
+                for width in (some_width(r, tasks, gap), some_width(r, tasks, gap)):
+                    command = [os.path.join(TOP, "meshorchard"), "histogram", name, "--width", str(width), "-o", out, "--chain", str(number)]
+                    subprocess.run(command, check=True)
+                    root = ElementTree.parse(out).getroot()
+                    same((root.get("width"), root.get("height")), ("900", "420"), "the size", name)
+                    titles = [text.text for text in list(root)[2:4]]
+                    of = os.path.basename(name)[:-9] + (f", chain {number}" if len(chains) > 1 else "")
+                    h = reference.hyperperiod(tasks)
+                    same(titles, [f"{of}: how often each delay occurs", f"{h:,} ticks of one hyperperiod, by delays in steps of {shown(width)}"], "titles")
+                    yield check_histogram(root, tasks, gap, width)
+
+
+@group
+def random_histograms(r, factor):
+    """histograms of random chains, in each size of a picture, of very wide bars, and of entries without a tick"""
+    breadths = set()
+    for i in range(int(90 * factor)):
+        tasks, gap = inputs.linked(r, r.choice([inputs.chain, inputs.cut_chain, inputs.far_chain])(r))
+        if quick(tasks, gap):
+            figures, width = analysis.made(Chain.of(tasks, gap)), some_width(r, tasks, gap) if i % 9 else 2**64 - 1
+            # A very wide bar has labels that a narrow picture has no room for; a page has no such bar.
+            frame = (drawing.ALONE, drawing.WIDE, drawing.NARROW)[i % 3 if width < 10**9 else 0]
+            root = ElementTree.fromstring(histogram.picture(figures, analysis.histogram(figures, width), "a chain", frame))
+            breadths.add(min(len([bar for bar in of_class(root, "delay")]), 300) // 100)
+            yield check_histogram(root, tasks, gap, width)
+    same(breadths, {0, 1, 2, 3}, "histograms with few bars and with many")
+    # Every chain has delays from the least to the greatest without a gap, so entries without a tick are made up.
+    for counts in ([6, 0, 6], [1, 0, 0, 10**6, 0, 7], [1]):
+        figures = dataclasses.replace(analysis.made(Chain.of([(4, 4, 0), (6, 6, 0)])), hyperperiod=sum(counts))
+        bars = [analysis.Bar((2 + i) * 5, (3 + i) * 5, count) for i, count in enumerate(counts)]
+        root = ElementTree.fromstring(histogram.picture(figures, bars, "counts", drawing.ALONE))
+        yield check_bars(root, 2, counts, 5, sum(counts), *scales(root, "delay", "ticks"))
 
 
 # ---- The way of a press
@@ -344,9 +473,9 @@ def ways(r, factor):
 def shown(ticks):
     """A time as a page shows it: from 1,000 ticks on in milliseconds, else in microseconds, to three digits."""
     value, unit = (Fraction(ticks, 1000), "ms") if ticks >= 1000 else (Fraction(ticks), "µs")
-    rounded = Fraction(math.floor(value * 1000 + Fraction(1, 2)), 1000)
-    text = f"{float(rounded):,.3f}".rstrip("0").rstrip(".")
-    return f"{'' if rounded == value else '≈ '}{text} {unit}"
+    thousandths = math.floor(value * 1000 + Fraction(1, 2))
+    text = f"{thousandths // 1000:,}.{thousandths % 1000:03d}".rstrip("0").rstrip(".")
+    return f"{'' if thousandths == value * 1000 else '≈ '}{text} {unit}"
 
 
 def check_schedule(text, schedule, gap):
@@ -388,12 +517,38 @@ def check_page(text, schedule, chains, numbers, gap, bound=None, jobs=10):
         worst = next(start for start, latency in anchors if latency == top)
         same(f"<h3>The way of the worst press, at {shown(worst)}</h3>" in section, True, "the worst press", worst)
         same("is refused with 11 in a report" in section, len(anchors) > 1024, "a table for which a report has no room", tasks)
-        pictures = [ElementTree.fromstring(picture) for picture in re.findall(r"<svg.*?</svg>", section, re.DOTALL)]
-        looked += check_curve(pictures[0], tasks, gap) + check_curve(pictures[1], tasks, gap)
-        looked += check_way(pictures[2], tasks, gap, worst, names, timeline.WIDE) + check_way(pictures[3], tasks, gap, worst, names, timeline.NARROW)
+        curves, ways_of = (pictures_of(section, kind) for kind in ("curve", "way"))
+        # On the sheet of one chain the curve has a size of its own.
+        same([kind for kind, _ in curves], ["wide", "narrow"] + ["sheet"] * (len(chains) == 1), "curves of a chain", c)
+        looked += sum(check_curve(picture, tasks, gap) for _, picture in curves)
+        looked += check_often(section, tasks, gap, table)
+        same([kind for kind, _ in ways_of], ["wide", "narrow"], "ways of a chain", c)
+        looked += sum(check_way(picture, tasks, gap, worst, names, frame) for (_, picture), frame in zip(ways_of, (timeline.WIDE, timeline.NARROW)))
         looked += check_bounds(section, tasks, gap, table, top * 95 // 100 if bound is None else bound, jobs)
         same(("Against the chosen bound: " in section, "Against a bound of 95 %" in section), (bound is not None, bound is None), "which bound")
     return looked + check_pairs(text, chains, gap)
+
+
+def pictures_of(section, part):
+    """The pictures in a part of a chain's section, each with its kind."""
+    held = re.search(rf'<div class="{part}">(.*?)</div>', section, re.DOTALL)
+    same(bool(held), True, "a part of a chain's section", part)
+    found = [ElementTree.fromstring(picture) for picture in re.findall(r"<svg.*?</svg>", held[1], re.DOTALL)]
+    return [(picture.get("class").split()[-1], picture) for picture in found]
+
+
+def check_often(section, tasks, gap, table):
+    """The histograms of a chain: the heading, the width, which is the smallest round one with at most 40 bars, and the bars."""
+    said_width = re.search(r'<p class="faint">Ticks of one hyperperiod; each bar is ([0-9,.]+) (µs|ms) wide\.</p>', section)
+    same(bool(said_width), True, "the width of a page's bars in words")
+    width = Fraction(said_width[1].replace(",", "")) * {"µs": 1, "ms": 1000}[said_width[2]]
+    rounds = sorted(times * 10**power for times in (1, 2, 5) for power in range(9))
+    fitting = [each for each in rounds if bars_of(table, each)[0] <= 40 and bars_of(table, each)[1] <= 2**20]
+    same(width, fitting[0], "the width of a page's bars", tasks, gap)
+    same("<h3>How often each delay occurs</h3>" in section, True, "the heading of a histogram")
+    pictures = pictures_of(section, "often")
+    same([kind for kind, _ in pictures], ["wide", "narrow"], "histograms of a chain")
+    return sum(check_histogram(picture, tasks, gap, int(width)) for _, picture in pictures)
 
 
 def check_bounds(section, tasks, gap, table, bound, jobs):
@@ -427,7 +582,7 @@ def check_pairs(text, chains, gap):
 
 @group
 def pages(r, factor):
-    """pages of the examples and of random schedules: figures, curves, ways, bounds, chains side by side"""
+    """pages of the examples and of random schedules: figures, curves, histograms, ways, bounds, chains side by side"""
     for name, chains, numbers, gap in schedules():
         with open(name, "rb") as file:
             made = page.of_schedule("a page", calls.read_file(file.read()), None, 10)

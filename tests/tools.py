@@ -229,13 +229,15 @@ def first_leg(places, warm):
     return reference.write_of(places[-1], warm[1][-1])
 
 
-def anchors_of(places, gap):
-    """How many anchors a chain has; where the reference is slow, by the call."""
+def table_of(places, gap):
+    """The table of a chain: starts, latencies, the number of anchors and the hyperperiod; where the reference is slow, by the call."""
     periods = [t for t, _, _ in places]
     cut, partitions = periods.index(max(periods)) + 1, math.lcm(*periods) // max(periods)
     if partitions <= 20000:
-        return len(reference.anchors(places, gap, cut))
-    return proved.make(inputs.flat(places), len(places), gap, cut, [0] * partitions, [0] * partitions)[0][1]
+        anchors = reference.anchors(places, gap, cut)
+        return [start for start, _ in anchors], [latency for _, latency in anchors], len(anchors), math.lcm(*periods)
+    answer, starts, latencies = proved.make(inputs.flat(places), len(places), gap, cut, [0] * partitions, [0] * partitions)
+    return starts, latencies, answer[1], math.lcm(*periods)
 
 
 def check_right(file):
@@ -244,7 +246,7 @@ def check_right(file):
         places = file.places(c)
         warm = reference.warm_up(places, file.gap)
         if warm[0] == "ok":
-            anchors = anchors_of(places, file.gap)
+            anchors = table_of(places, file.gap)[2]
             chains.append((c, numbers, warm[3], warm[2], first_leg(places, warm), warm[1], anchors, anchors <= 1024))
         else:
             chains.append((c, warm[1]))
@@ -299,7 +301,7 @@ def reasons(file, refusal, *chains):
     if refusal == 17:
         places = len(file.places(*chains))
         return {1: ["1 place,", "cannot be cut"], 2: ["2 places,", "its one cut is 1."]}.get(places, [f"{places} places,", f"1 to {places - 1},"])
-    return {13: ["1,000,000,000,000"], 15: ["1 to 100"]}[refusal]
+    return {13: ["1,000,000,000,000"], 15: ["1 to 100"], 18: ["the width is 0", "1 tick or more"]}[refusal]
 
 
 def lacking(answer, pieces):
@@ -415,6 +417,111 @@ def sections_cases(r, file):
         yield f"sections of chain {c}", refused_with(called("sections", file.path, 1, "--chain", c)), (1, 16, None)
 
 
+# The longest bar, and the most bars and counts that the command allows.
+LONGEST_BAR, MOST_BARS, MOST_COUNTS = 40, 500, 2**20
+
+
+def in_a_row(lines, sign):
+    """Whether a sign stands at the same place of all lines that have it."""
+    return len({line.index(sign) for line in lines if sign in line}) <= 1
+
+
+def histogram_of(answer):
+    """The chain, the hyperperiod, the width; of each row both ends, the ticks, the share, whether it is marked as rounded and the length of the bar; the ticks together."""
+    lines, end = answer.text().splitlines(), r"([0-9,.]+) (µs|ms)"
+    head = re.fullmatch(rf"chain {COUNT}, hyperperiod {TIME}, width {TIME}: how often each delay occurs", lines[0]) if lines else None
+    rows = [re.fullmatch(rf"  from +{end} to below +{end} +{COUNT} (ticks?) +(≈ )?([0-9]+\.[0-9]) %(?:  (#+))?", line) for line in lines[1:-1]]
+    last = re.fullmatch(rf"  together {COUNT} (ticks?): every tick of a hyperperiod", lines[-1]) if lines else None
+    if answer.status or answer.err or not head or not last or not rows or not all(rows):
+        return answer
+    # One tick and several, one unit, and columns below each other.
+    named, units = [(number(row[5]), row[6]) for row in rows] + [(number(last[1]), last[2])], {row[i] for row in rows for i in (2, 4)}
+    if any((word == "tick") != (count == 1) for count, word in named) or len(units) > 1 or not all(in_a_row(lines[1:-1], sign) for sign in ("to below", " tick", "%", "#")):
+        return answer
+    ticks = {"µs": 1, "ms": 1000}
+    ends = [[Fraction(row[i].replace(",", "")) * ticks[row[i + 1]] for i in (1, 3)] for row in rows]
+    told_of = [(*both, number(row[5]), row[8], bool(row[7]), len(row[9] or "")) for both, row in zip(ends, rows)]
+    return number(head[1]), time_of(head, 2), time_of(head, 4), told_of, number(last[1])
+
+
+def too_narrow(least, top, width):
+    """What a histogram of this width has more of than the command allows, if anything: bars from the least delay to the greatest, or else counts up to there."""
+    bars, counts = top // width - least // width + 1, top // width + 1
+    return f"{bars:,} bars" if bars > MOST_BARS else f"{counts:,} counts" if counts > MOST_COUNTS else None
+
+
+def wide_enough(least, top, width):
+    """The least width from this one on with which the command makes a histogram."""
+    return next(each for each in itertools.count(width) if not too_narrow(least, top, each))
+
+
+def histogram_right(c, table, width):
+    """What the command prints on chain c, from the counts of the reference."""
+    h, top = table[3], reference.greatest(*table)[1]
+    answer = reference.histogram(*table, width, top // width + 1 if width else 0)
+    if answer[0] != "ok":
+        return 1, answer[1], None
+    counts, rows, most = answer[1], [], max(answer[1])
+    occurring = [i for i, count in enumerate(counts) if count]
+    for i in range(occurring[0], occurring[-1] + 1):
+        tenths = Fraction(1000 * counts[i], h)
+        nearest = math.floor(tenths + Fraction(1, 2))
+        length = math.floor(Fraction(LONGEST_BAR * counts[i], most) + Fraction(1, 2))
+        rows.append((i * width, (i + 1) * width, counts[i], f"{nearest // 10}.{nearest % 10}", nearest != tenths, max(length, 1) if counts[i] else 0))
+    return c, h, width, rows, h
+
+
+def some_widths(r, least, top):
+    """Widths around the limits of the command, around the least and the greatest delay, and others."""
+    first = wide_enough(least, top, 1)
+    some = [first + 1, least - 1, least, least + 1, top, top + 1, top // 2 + 1, 2**64 - 1, 1000, 1000000, r.randint(first, top), r.randint(1, top)]
+    return [0, first, *([first - 1] if first > 1 else []), *r.sample(some, 4)]
+
+
+def histogram_cases(r, file):
+    """Widths with units and without, those with too many bars or counts among them, and chains that there are not."""
+    for c in range(1, len(file.chains) + 1):
+        places = file.places(c)
+        if reference.check_chain(places, file.gap)[0] != "ok":
+            answer = called("histogram", file.path, "--width", r.choice([0, 1, 5000]), "--chain", c)
+            yield f"histogram {file.path} of chain {c}", refused_with(answer), (1, 7, None)
+            yield f"histogram {file.path} of chain {c}, in words: {answer.err}", lacking(answer, reasons(file, 7, c)), []
+            continue
+        table = table_of(places, file.gap)
+        least, top = reference.low(*table)[1] + 1, reference.greatest(*table)[1]
+        for width in some_widths(r, least, top):
+            words_of = ["--width", r.choice([str(width), spelt(r, width)])], ["--chain", c] if c > 1 or r.random() < 0.5 else []
+            answer = called("histogram", *r.choice([[file.path, *words_of[0], *words_of[1]], [*words_of[1], *words_of[0], file.path]]))
+            what, fault = f"histogram {file.path} {words_of} {width}: {answer.err}", too_narrow(least, top, width) if width else None
+            if fault:
+                found = re.fullmatch(rf"\./meshorchard: a width of {TIME} .*?({COUNT} (?:bars|counts)), .*; the least width above it that works is {TIME}\n", answer.err)
+                yield what, (answer.status, answer.out, found and (time_of(found), found[3], time_of(found, 5))), (2, b"", (width, fault, wide_enough(least, top, width)))
+                continue
+            yield what, refused_with(answer) if answer.status else histogram_of(answer), histogram_right(c, table, width)
+            if answer.status:
+                yield f"{what} in words", lacking(answer, reasons(file, refused_with(answer)[1], c)), []
+    for c in (0, len(file.chains) + 1, 2**64 - 1):
+        yield f"histogram of chain {c}", refused_with(called("histogram", file.path, "--width", 5000, "--chain", c)), (1, 16, None)
+
+
+def rows_of_counts(counts, width, first=0):
+    """The rows that are printed of these counts, from an entry on."""
+    figures = dataclasses.replace(analysis.made(CHAIN_A), hyperperiod=sum(counts))
+    bars = [analysis.Bar((first + i) * width, (first + i + 1) * width, count) for i, count in enumerate(counts)]
+    return histogram_of(Answer(0, "".join(line + "\n" for line in words.histogram(1, figures, bars)).encode(), ""))
+
+
+def bar_cases():
+    """Bars of counts that no chain has: none between two others, one tick beside very many, and halves of a sign and of a tenth."""
+    for counts, width, first, told_of in (
+        ([3, 0, 1], 5, 2, [("75.0", False, 40), ("0.0", False, 0), ("25.0", False, 13)]), ([1, 10**6], 1000, 0, [("0.0", True, 1), ("100.0", True, 40)]),
+        ([80, 1, 3], 10, 1, [("95.2", True, 40), ("1.2", True, 1), ("3.6", True, 2)]), ([1999, 1], 1, 7, [("100.0", True, 40), ("0.1", True, 1)]),
+        ([2], 2**64 - 1, 0, [("100.0", False, 40)]),
+    ):
+        right = 1, sum(counts), width, [((first + i) * width, (first + i + 1) * width, count, *told) for i, (count, told) in enumerate(zip(counts, told_of))], sum(counts)
+        yield f"bars of {counts} from entry {first} of width {width}", rows_of_counts(counts, width, first), right
+
+
 def picture_faults(data):
     """What is wrong with an SVG."""
     try:
@@ -431,11 +538,11 @@ def page_faults(data):
 
 
 def picture_cases(folder, file, statuses):
-    """curve and page: a status, and an output that is a picture or a page. `statuses` are those of the curve of each chain and of the page."""
+    """curve, histogram and page: a status, and an output that is a picture or a page. `statuses` are those of the pictures of each chain and of the page."""
     out = os.path.join(folder, "out")
-    for c, status in enumerate(statuses[:-1], start=1):
-        answer = called("curve", file.path, "-o", out, "--chain", c)
-        yield f"curve {file.path} of chain {c}", (answer.status, picture_faults(content(out)) if os.path.exists(out) else "no file"), (status, "no file" if status else None)
+    for (c, status), drawn in itertools.product(enumerate(statuses[:-1], start=1), (["curve"], ["histogram", "--width", 60011000], ["histogram", "--width", 2**64 - 1])):
+        answer = called(*drawn, file.path, "-o", out, "--chain", c)
+        yield f"{drawn} {file.path} of chain {c}", (answer.status, answer.out, picture_faults(content(out)) if os.path.exists(out) else "no file"), (status, b"", "no file" if status else None)
         if os.path.exists(out):
             os.remove(out)
     answer = called("page", file.path, "-o", out, "--bound", 5000, "--jobs", 7)
@@ -459,6 +566,7 @@ def accepted_cases(r, folder, file):
     yield from pair_cases(r, file)
     yield from windows_cases(r, file)
     yield from sections_cases(r, file)
+    yield from histogram_cases(r, file)
     yield from picture_cases(folder, file, [*map(int, chains), int(any(chains) or no_common(file) or not all(chain[-1] for chain in check_right(file)[3]))])
 
 
@@ -484,10 +592,11 @@ def refused_files(r, folder):
 
 def arguments_for(word, path, out):
     """The command on a file."""
-    return [word, path, *{"delay": [10**6], "age": [10**6], "pair": [10**6, 1, 1], "windows": [5000, 10], "sections": [1], "curve": ["-o", out], "page": ["-o", out]}.get(word, [])]
+    more = {"delay": [10**6], "age": [10**6], "pair": [10**6, 1, 1], "windows": [5000, 10], "sections": [1], "histogram": ["--width", "5ms"], "curve": ["-o", out], "page": ["-o", out]}
+    return [word, path, *more.get(word, [])]
 
 
-ON_FILES = ("text", "check", "report", "delay", "age", "pair", "windows", "sections", "curve", "page")
+ON_FILES = ("text", "check", "report", "delay", "age", "pair", "windows", "sections", "histogram", "curve", "page")
 
 
 def refused_cases(r, folder):
@@ -528,13 +637,16 @@ def wrong_use_cases(folder):
     """Wrong use: status 2, nothing printed, and the wrong word told."""
     out = os.path.join(folder, "out")
     some = [([], "COMMAND"), (["chekc", LASER], "chekc"), (["check"], "FILE"), (["check", LASER, "more"], "more"), (["curve", LASER], "-o"), (["write", LASER_TEXT], "FILE"), (["sections", LASER], "CUTS"), (["sections", LASER, "1,x"], "x"), (["sections", LASER, "1,"], "1,")]
-    some += [(["explain"], "N")] + [(["explain", word], word) for word in ("0", "18", "18446744073709551616", "x", "-1", "1.5")] + [(["explain", "5", "x"], "x")]
+    some += [(["histogram", LASER, *words], "--width") for words in ([], ["5ms"], ["--width"])] + [(["histogram", "--width", "5ms"], "FILE"), (["histogram", LASER, "--width", "5ms", "-o"], "-o")]
+    # A width with more bars than are shown; the picture is not made either.
+    some += [(["histogram", LASER, "--width", "1", *more], "105,000 bars") for more in ([], ["-o", out], ["-o", "-"])]
+    some += [(["explain"], "N")] + [(["explain", word], word) for word in ("0", "19", "18446744073709551616", "x", "-1", "1.5")] + [(["explain", "5", "x"], "x")]
     for bad in ("-1", "x", "1.5", "18446744073709551616", "5ns", "1,0", "", "١", "1e3", "0.0000001s"):
         wrong = (["delay", LASER, bad], ["age", LASER, bad, "1"], ["pair", LASER, bad, "1", "1"], ["windows", LASER, bad, "5"], ["page", LASER, "-o", out, "--bound", bad])
-        some += [(arguments, bad) for arguments in wrong]
+        some += [(arguments, bad) for arguments in (*wrong, ["histogram", LASER, "--width", bad], ["histogram", LASER, "--width", bad, "-o", out])]
     for bad in ("-1", "x", "1.5", "18446744073709551616", "1ms", ""):
         wrong = (["delay", LASER, "5", bad], ["pair", LASER, "5", "1", bad], ["windows", LASER, "5", bad], ["sections", LASER, bad], ["sections", LASER, "1", "--chain", bad], ["curve", LASER, "-o", out, "--chain", bad], ["page", LASER, "-o", out, "--jobs", bad])
-        some += [(arguments, bad) for arguments in wrong]
+        some += [(arguments, bad) for arguments in (*wrong, ["histogram", LASER, "--width", "5ms", "--chain", bad])]
     for arguments, word in some:
         answer = called(*arguments)
         yield " ".join(map(str, arguments)), (answer.status, answer.out, word in answer.err, "Traceback" in answer.err, content(out)), (2, b"", True, False, None)
@@ -544,7 +656,8 @@ def like_processes(folder, files):
     """./meshorchard gives what the calls in this process give."""
     out = os.path.join(folder, "out")
     some = [arguments_for(word, path, out) for path in files for word in ON_FILES if word not in ("curve", "page")]
-    some += [["explain", "5", "18"], ["explain", "18"], ["delay", LASER, "95ms"], ["delay", LASER, "x"], []]
+    some += [["explain", "5", "18"], ["explain", "18"], ["explain", "19"], ["delay", LASER, "95ms"], ["delay", LASER, "x"], []]
+    some += [["histogram", LASER, "--width", width, *more] for width, more in (("0", []), ("1", []), ("20 ms", ["--chain", "1"]), ("20ms", ["-o", "-"]), ("0", ["-o", "-"]))]
     for arguments, answer in zip(some, ran_all([(arguments,) for arguments in some])):
         yield f"./meshorchard {' '.join(map(str, arguments))}", answer, called(*arguments)
 
@@ -553,8 +666,9 @@ def like_processes(folder, files):
 def commands(r, factor):
     """every command on the examples, on other files and on refused ones, with the reference's numbers"""
     with tempfile.TemporaryDirectory() as folder:
-        # Beside the examples: any chains, a hyperperiod that is too long beside one that is not, and more anchors than a report has room for.
-        some = {"long": [[(999983, 1, 0), (999979, 1, 0)], [(4, 4, 0), (6, 6, 0)], [(768, 5, 1), (78125, 9, 2)]], "anchors": [reports.near_slots(r, 1030)]}
+        # Beside the examples: any chains, a hyperperiod that is too long beside one that is not, more anchors than a report has room for, and delays that differ little but are long.
+        some = {"long": [[(999983, 1, 0), (999979, 1, 0)], [(4, 4, 0), (6, 6, 0)], [(768, 5, 1), (78125, 9, 2)]], "anchors": [reports.near_slots(r, 1030)],
+                "long-delays": [[(3, 3999999, 999999), (7, 4000000, 1000000)] * 6]}
         some.update({f"any-{i}": reports.quick_chains(r, i % 4 + 1) for i in range(int(12 * factor))})
         files = [file_of(path) for path in EXAMPLES] + [file_of(put(folder, f"{name}.schedule", b"".join(reports.file_of(r, chains)))) for name, chains in some.items()]
         assert len(EXAMPLES) >= 8 and {7, 11} <= {found[0] for file in files for found in reports.refusals(file.data).values()}
@@ -566,9 +680,10 @@ def commands(r, factor):
         yield from refused_cases(r, folder)
         yield from long_cases(r, folder)
         yield from wrong_use_cases(folder)
+        yield from bar_cases()
         for jobs in (0, 101):
             yield f"page with windows of {jobs} jobs, which are refused with 15", called("page", LASER, "-o", os.path.join(folder, "out"), "--jobs", jobs).status, 1
-        for refusal in range(1, 18):
+        for refusal in range(1, 19):
             answer = called("explain", refusal)
             yield f"explain {refusal}", (answer.status, answer.text().startswith(f"{refusal}: "), answer.text().count("\n") >= 2, answer.err), (0, True, True, "")
         yield from like_processes(folder, [LASER, os.path.join(folder, "long.schedule"), os.path.join(folder, "refused-5.schedule"), os.path.join(folder, "missing")])
@@ -819,6 +934,7 @@ EXPLAINED = {
     6: ("names a task",), 7: ("hyperperiod is too long", "60,000,000"), 8: ("too many or too few", "1 to 32", "1 to 4", "1 to 12"), 9: ("the cut is at no place",),
     10: ("starts and the latencies differ in length",), 11: ("too little room", "698", "1,024"), 12: ("too early", "warm-up tick"), 13: ("too late", "1,000,000,000,000"),
     14: ("not well-formed", "1,000,000,000", "60,011,000"), 15: ("window is outside", "1 to 100"), 16: ("no chain of that number", "from 1"),
+    17: ("do not part the chain", "1 to the number of places less 1"), 18: ("width is 0", "1 tick or more"),
 }
 # What it must say of a place, and what it must not.
 PLACES = {
@@ -1035,7 +1151,7 @@ FILE_A = b"".join(inputs.records([(1, 4, 4, 0), (2, 6, 6, 0)], [[1, 2], [2]], 0)
 # Each call of the header with chain A of the specification: its arguments, and what README, header or reference say that it answers.
 ANSWERS = {
     "read_table": ((TABLE_A, 7), 11), "greatest": ((TABLE_A,), 18), "low": ((TABLE_A,), 10), "mean": ((TABLE_A,), (336, 24)), "throughput": ((TABLE_A,), (2, 12)),
-    "exceedance": ((TABLE_A, 15), (3, False)),
+    "exceedance": ((TABLE_A, 15), (3, False)), "histogram": ((TABLE_A, 5, array("Q", [99, 98, 97])), 6),
     "check": ((CHAIN_A,), 12), "warm_up": ((CHAIN_A,), ((0, 1), 0, 12)), "delay": ((CHAIN_A, 0), 18), "age": ((CHAIN_A, 12), 12),
     "make_table": ((CHAIN_A, 1, array("Q", bytes(24)), array("Q", bytes(24))), (2, 0, 12, 3)),
     "windows": ((CHAIN_A, 13, 3), reference.windows([(4, 4, 0), (6, 6, 0)], 0, 13, 3)[1:]), "read_file": ((FILE_A,), ([1, 4, 4, 0, 2, 6, 6, 0, *[0] * 120], 2, [1, 2, *[0] * 10, 2, *[0] * 35], [2, 1, 0, 0], 2, 0, (None, None, None))),
@@ -1050,7 +1166,7 @@ REFUSALS = {
     10: (calls.make_table, (CHAIN_A, 1, array("Q", bytes(8)), array("Q", bytes(16))), 0),
     11: (calls.make_table, (CHAIN_A, 1, array("Q", bytes(8)), array("Q", bytes(8))), 0), 12: (calls.age, (CHAIN_A, 11), 0),
     13: (calls.delay, (CHAIN_A, 10**12 + 1), 0), 14: (calls.greatest, (dataclasses.replace(TABLE_A, hyperperiod=0),), 0), 15: (calls.windows, (CHAIN_A, 5, 101), 0),
-    16: (calls.chain_of_schedule, (SCHEDULE_A, 3), 0), 17: (calls.sections, (CHAIN_A, [1, 1]), 0),
+    16: (calls.chain_of_schedule, (SCHEDULE_A, 3), 0), 17: (calls.sections, (CHAIN_A, [1, 1]), 0), 18: (calls.histogram, (TABLE_A, 0, array("Q", [7])), 0),
     5: (calls.check, (Chain.of([(4, 4, 0), (0, 6, 0)]),), 2), 6: (calls.write_file, (Schedule.of([(1, 4, 4, 0)], [[1, 1, 9]]), bytearray(698)), 3),
     1: (calls.read_file, (FILE_A[:-1],), len(FILE_A) - 4), 2: (calls.read_file, (b"\3\0\1\0",), 0), 3: (calls.read_file, (b"\4\0\5\0",), 0),
     4: (calls.read_file, (FILE_A + b"x",), len(FILE_A)),
@@ -1066,7 +1182,7 @@ def declared_cases():
     """Every call of the header is a typed function with the answer that it should have."""
     with open(os.path.join(TOP, "include", "meshorchard.h"), encoding="utf-8") as header:
         names = re.findall(r"^\w+ mo_(\w+)\(", re.sub(r"/\*.*?\*/", "", header.read(), flags=re.DOTALL), re.MULTILINE)
-    assert len(names) == len(set(names)) == len(ANSWERS) == 18, names
+    assert len(names) == len(set(names)) == len(ANSWERS) == 19, names
     for name in names:
         function = getattr(calls, name, None)
         typed = callable(function) and all(each.annotation is not each.empty for each in inspect.signature(function).parameters.values())
@@ -1076,6 +1192,11 @@ def declared_cases():
         yield f"calls.{name}", shape(found), right
         yield f"calls.{name} answers what its type says", isinstance(found, eval(function.__annotations__["return"], vars(calls))), True
     yield "calls.read_file", (calls.read_file(FILE_A).task_list(), calls.read_file(FILE_A).chain_list()), ([(1, 4, 4, 0), (2, 6, 6, 0)], [[1, 2], [2]])
+    yield "what calls.histogram leaves", list(ANSWERS["histogram"][0][2]), [0, 0, 6]
+    for width, length in ((1, 19), (1, 0), (5, 4), (5, 5), (5, 0), (18, 1), (19, 1), (2**64 - 1, 1), (2**64 - 1, 0), (2**63, 3)):
+        counts = array("Q", [7] * length)
+        rest = calls.histogram(TABLE_A, width, counts)
+        yield f"calls.histogram of width {width} and {length} counts", ("ok", list(counts), rest), reference.histogram(*shape(TABLE_A), width, length)
 
 
 def refusal_cases():
@@ -1087,7 +1208,10 @@ def refusal_cases():
             words = refused.words
             found = refused.number, refused.place, isinstance(words, str) and len(words) > 20, words in str(refused), str(refusal) in str(refused)
         yield f"refusal {refusal} of calls.{call.__name__}", found, (refusal, place, True, True, True)
-    yield "a refusal for each number of the header", sorted(REFUSALS), list(range(1, 18))
+    yield "a refusal for each number of the header", sorted(REFUSALS), list(range(1, 19))
+    for table, width, refusal in ((TABLE_A, 0, 18), (dataclasses.replace(TABLE_A, anchors=3), 0, 14), (dataclasses.replace(TABLE_A, anchors=3), 5, 14)):
+        counts = array("Q", [7, 8, 9])
+        yield f"a histogram that is refused with {refusal}, and its list", (proved.answered(calls.histogram, table, width, counts), list(counts)), (("refused", refusal, 0), [7, 8, 9])
 
 
 def beyond():
@@ -1096,7 +1220,7 @@ def beyond():
         asked = [
             (calls.delay, CHAIN_A, value), (calls.age, CHAIN_A, value), (calls.windows, CHAIN_A, value, 3), (calls.windows, CHAIN_A, 5, value),
             (calls.sections, CHAIN_A, [value]), (calls.sections, CHAIN_A, [1, value]),
-            (calls.read_table, TABLE_A, value), (calls.exceedance, TABLE_A, value),
+            (calls.read_table, TABLE_A, value), (calls.exceedance, TABLE_A, value), (calls.histogram, TABLE_A, value, array("Q", bytes(8))),
             (calls.make_table, CHAIN_A, value, array("Q", bytes(8)), array("Q", bytes(8))), (calls.chain_of_schedule, SCHEDULE_A, value),
             (calls.bookings, SCHEDULE_A, value, 1, 5), (calls.bookings, SCHEDULE_A, 1, value, 5),
             (calls.bookings, SCHEDULE_A, 1, 1, value), (calls.check, dataclasses.replace(CHAIN_A, gap=value)), (calls.check, dataclasses.replace(CHAIN_A, places=value)),
@@ -1140,6 +1264,7 @@ def leaves(code, *lists):
 BREACHES = [
     ("mo_delay", calls.delay, (CHAIN_A, 0), leaves(0, None)), ("mo_delay", calls.delay, (CHAIN_A, 0), leaves(12, [5])), ("mo_check", calls.check, (CHAIN_A,), leaves(7, None)),
     ("mo_mean", calls.mean, (TABLE_A,), leaves(0, [3], None)), ("mo_exceedance", calls.exceedance, (TABLE_A, 5), leaves(0, [3], [1])), ("mo_exceedance", calls.exceedance, (TABLE_A, 5), leaves(0, [3], [2])),
+    ("mo_histogram", calls.histogram, (TABLE_A, 5, array("Q", [0])), leaves(0, None)), ("mo_histogram", calls.histogram, (TABLE_A, 0, array("Q", [0])), leaves(18, [12])),
     ("mo_warm_up", calls.warm_up, (CHAIN_A,), leaves(0, [1, 1, 1], [4], [12])), ("mo_warm_up", calls.warm_up, (CHAIN_A,), leaves(8, [], [4], [])),
     ("mo_make_table", calls.make_table, (CHAIN_A, 1, array("Q", [0]), array("Q", [0])), leaves(11, None)),
     ("mo_make_table", calls.make_table, (CHAIN_A, 1, array("Q", [0]), array("Q", [0])), leaves(9, [0, 0, 12])),
@@ -1176,6 +1301,14 @@ def raised(exception, call, *arguments):
         return repr(other)
 
 
+def counting(entries, rest):
+    """A histogram with these counts and this rest."""
+    def call(table, width, counts):
+        counts[:] = array("Q", entries)
+        return rest
+    return call
+
+
 def breach_cases():
     """Calls that break a promise are told as broken, and answers of two calls that differ as a disagreement."""
     for name, call, arguments, other in BREACHES:
@@ -1187,6 +1320,13 @@ def breach_cases():
         yield "a leg whose front parts have another age", raised(analysis.Disagreement, analysis.way_of_leg, CHAIN_A, 30), True
     with Replaced(calls, "age", lambda chain, z: 5):
         yield "an age before the first", raised(analysis.Disagreement, analysis.first_leg, CHAIN_A), True
+    figures = analysis.made(CHAIN_A)
+    # A rest, a tick too few, ticks below the least delay, none at the greatest, none at the least.
+    for counted, rest in (([0, 0, 6, 6], 1), ([0, 0, 6, 5], 0), ([0, 6, 6, 0], 0), ([0, 0, 12, 0], 0), ([0, 0, 0, 12], 0)):
+        with Replaced(calls, "histogram", counting(counted, rest)):
+            yield f"a histogram {counted} with the rest {rest}", raised(analysis.Disagreement, analysis.histogram, figures, 5), True
+    with Replaced(calls, "histogram", counting([], 0)):
+        yield "a width of 0 that is not refused", raised(analysis.Disagreement, analysis.histogram, figures, 0), True
     yield "a job between two", raised(analysis.Disagreement, analysis.job_written, CHAIN_A, 1, 7), True
     yield "bookings other than those of each chain", raised(analysis.Disagreement, words.pair, SCHEDULE_A, calls.Bookings(19, 12, 7, 9), 1, 2, 0), True
 
@@ -1199,6 +1339,7 @@ def buffer_cases():
         yield f"report to {type(out)}", raised(TypeError, calls.report, FILE_A, out), True
     for out in ([0] * 5, (0,) * 5, array("q", [0] * 5), array("L", [0] * 5), memoryview(bytes(40))):
         yield f"make_table to {type(out)}", raised(TypeError, calls.make_table, CHAIN_A, 1, out, out), True
+        yield f"histogram to {type(out)}", raised(TypeError, calls.histogram, TABLE_A, 5, out), True
     for data in (FILE_A, bytearray(FILE_A), memoryview(FILE_A), memoryview(bytearray(FILE_A)), array("B", FILE_A), memoryview(array("B", FILE_A))):
         yield f"read_file of {type(data)}", shape(calls.read_file(data)), shape(calls.read_file(FILE_A))
     yield "a list lent as a longer one", raised(ValueError, calls.write_file, dataclasses.replace(SCHEDULE_A, lengths=(128, None, None)), bytearray(698)), True
@@ -1262,6 +1403,9 @@ def stream_cases(folder):
         called(*arguments_for(word, LASER, out))
         if word in ("curve", "page"):
             yield f"{word} -o -", one.out, content(out)
+    called("histogram", LASER, "--width", "5ms", "-o", out)
+    answers = ran_all([(["histogram", LASER, "--width", "5ms", "-o", "-"],), (["histogram", "-", "--width", "5ms", "-o", "-"], content(LASER))])
+    yield "histogram -o -", [(answer.status, answer.err, answer.out.replace(b"standard input", b"laser")) for answer in answers], [(0, "", content(out))] * 2
     for source, stdin in ((LASER_TEXT, b""), ("-", content(LASER_TEXT))):
         answer = ran(["write", source, "-"], stdin)
         yield f"write {source} -", (answer.status, answer.out, "task 10 period 2500" in answer.err), (0, content(LASER), True)
@@ -1288,7 +1432,7 @@ def unwritable_cases(folder):
                 yield f"{arguments} on a standard output that is {name}: {answer.err[-200:]}", found, (2, name != "without a reader", False)
     os.close(gone)
     for path in ("/dev/full", folder, os.path.join(folder, "missing", "out")):
-        for arguments in (["write", LASER_TEXT, path], ["curve", LASER, "-o", path], ["page", LASER, "-o", path]):
+        for arguments in (["write", LASER_TEXT, path], ["curve", LASER, "-o", path], ["histogram", LASER, "--width", "5ms", "-o", path], ["page", LASER, "-o", path]):
             answer = called(*arguments)
             yield f"{arguments}", (answer.status, answer.out, path in answer.err and "cannot be written" in answer.err, "Traceback" in answer.err), (2, b"", True, False)
 
@@ -1307,7 +1451,8 @@ def unreadable_cases():
 def same_file_cases(folder):
     """An output that is the input, by whatever name: status 2, and the input is kept."""
     text, data = content(LASER_TEXT), content(LASER)
-    for name, held, form in (("same.txt", text, ["write", None, None]), ("same.schedule", data, ["curve", None, "-o", None]), ("same.schedule", data, ["page", None, "-o", None])):
+    drawn = [["curve", None, "-o", None], ["histogram", None, "--width", "5ms", "-o", None], ["page", None, "-o", None]]
+    for name, held, form in (("same.txt", text, ["write", None, None]), *[("same.schedule", data, form) for form in drawn]):
         path = put(folder, name, held)
         hard, soft = os.path.join(folder, f"{form[0]}-hard"), os.path.join(folder, f"{form[0]}-soft")
         os.link(path, hard)
@@ -1358,12 +1503,12 @@ def name_cases(folder):
     for name in (b"\xff.schedule", b"a<b>&'\".schedule", "größe 1.schedule".encode()):
         path = os.fsdecode(os.path.join(os.fsencode(folder), name))
         shutil.copyfile(LASER, path)
-        for word in ON_FILES:
-            out = os.path.join(folder, "out")
-            answer = called(*arguments_for(word, path, out))
-            yield f"{word} of a file named {name}: {answer.err[-200:]}", (answer.status, "Traceback" in answer.err), (0, False)
-            if word == "curve" and answer.status == 0:
-                yield f"{word} of a file named {name}", picture_faults(content(out)), None
+        out = os.path.join(folder, "out")
+        for arguments in [arguments_for(word, path, out) for word in ON_FILES] + [["histogram", path, "--width", "5ms", "-o", out]]:
+            answer = called(*arguments)
+            yield f"{arguments} of a file named {name}: {answer.err[-200:]}", (answer.status, "Traceback" in answer.err), (0, False)
+            if arguments[0] == "curve" or "histogram" in arguments and "-o" in arguments:
+                yield f"{arguments} of a file named {name}", picture_faults(content(out)), None
 
 
 @group

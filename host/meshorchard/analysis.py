@@ -1,25 +1,34 @@
-"""What the proved calls say of a chain: its table, its figures, the way of a press and of a leg, and how two chains are booked.
+"""What the proved calls say of a chain: its table, its figures, how often each delay occurs, the way of a press and of a leg, and how two chains are booked.
 
 The numbers are those of the calls. Two steps are done here beside them: the read of a job is its write less the task's duration, and its number is how many periods lie
 between the phase and the read; where these are no whole periods, that is an error.
 """
 from __future__ import annotations
 
+import itertools
 from array import array
 from dataclasses import dataclass
 from fractions import Fraction
-from typing import List, Optional
+from typing import List, NamedTuple, Optional
 
 from . import calls
 from .lent import Chain, Table
+from .measures import said
 from .refusals import Refused
 
 # The slots that a table has at first; as many as the instrument's report has.
 SLOTS = 1024
+# As many counts as are lent for a histogram, 8 MB of them, and as many bars as can still be told apart in a picture.
+MOST_COUNTS = 2**20
+MOST_BARS = 500
 
 
 class Disagreement(Exception):
     """Two calls that must agree do not."""
+
+
+class TooNarrow(Exception):
+    """A width with which a histogram has more counts than are lent, or more bars than are shown."""
 
 
 @dataclass(frozen=True)
@@ -118,6 +127,43 @@ def made(chain: Chain, count: int = SLOTS) -> Figures:
     table = Table(starts, latencies, making.anchors, making.hyperperiod)
     top, mean = calls.greatest(table), calls.mean(table)
     return Figures(table, making.tick, making.hyperperiod, top, calls.low(table), Fraction(mean.doubled_area, mean.doubled_ticks), starts[latencies.index(top)])
+
+
+class Bar(NamedTuple):
+    """An entry of a histogram: how many ticks of a hyperperiod have a delay from `start` up to below `stop`."""
+
+    start: int
+    stop: int
+    count: int
+
+
+def entries(figures: Figures, width: int) -> range:
+    """The entries of a histogram from that of the least delay, which is a tick above the low, to that of the greatest. A width of 0 has none."""
+    return range((figures.low + 1) // width, figures.greatest // width + 1) if width else range(0)
+
+
+def too_many(figures: Figures, width: int) -> Optional[str]:
+    """What a histogram of this width has too many of, if anything."""
+    of = entries(figures, width)
+    if len(of) > MOST_BARS:
+        return f"makes {len(of):,} bars, and at most {MOST_BARS} are shown"
+    return f"needs a list of {of.stop:,} counts, and at most {MOST_COUNTS:,} are lent" if of.stop > MOST_COUNTS else None
+
+
+def histogram(figures: Figures, width: int) -> List[Bar]:
+    """How often each delay occurs: a bar for each entry from the first with ticks to the last. The list that is lent reaches the greatest delay, so that no tick is left."""
+    fault = too_many(figures, width)
+    if fault:
+        least = next(wider for wider in itertools.count(width) if not too_many(figures, wider))
+        raise TooNarrow(f"a width of {said(width)} {fault}; the least width above it that works is {said(least)}")
+    of = entries(figures, width)
+    # It is the call that refuses a width of 0.
+    counts = slots(of.stop)
+    rest = calls.histogram(figures.table, width, counts)
+    bars = [Bar(i * width, (i + 1) * width, counts[i]) for i in of]
+    if rest or sum(bar.count for bar in bars) != figures.hyperperiod or not (bars[0].count and bars[-1].count):
+        raise Disagreement(f"the counts of a width of {width} are not those of all {figures.hyperperiod} ticks of a hyperperiod, from the least delay to the greatest")
+    return bars
 
 
 def jobs_between(chain: Chain, place: int, first: int, last: int, most: int) -> Optional[List[Job]]:

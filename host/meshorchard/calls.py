@@ -129,6 +129,13 @@ def exceedance(table: Table, b: int) -> Exceedance:
     return Exceedance(run, endless == 1)
 
 
+def histogram(table: Table, width: int, counts: WritableNumbers) -> int:
+    """The rest, the ticks whose delays lie beyond the list; the counts are left in the list."""
+    rest = answers(1)
+    _sound(library.load().mo_histogram(*table.lent(), number(width), *lend_to_write(counts), rest), list(rest), "table")
+    return rest[0]
+
+
 # ---- Chains
 
 def check(chain: Chain) -> int:

@@ -7,7 +7,7 @@ import sys
 import traceback
 from typing import List, Optional
 
-from . import analysis, calls, curve, limits, measures, page, refusals, text, words
+from . import analysis, calls, curve, histogram, limits, measures, page, refusals, text, words
 from .lent import Chain, Schedule
 from .library import Missing
 from .refusals import Refused
@@ -140,12 +140,28 @@ def do_age(asked) -> int:
     return answer_at(asked, words.age)
 
 
+def name_of(schedule: Schedule, asked) -> str:
+    """What a picture of one chain calls it."""
+    return f"{title_of(asked.file)}, chain {asked.chain}" if schedule.chain_count > 1 else title_of(asked.file)
+
+
 def do_curve(asked) -> int:
     schedule = schedule_of(asked.file)
     chain = chain_of(schedule, asked.file, asked.chain)
     figures = on_chain(schedule, asked.chain, lambda: analysis.made(chain))
-    name = f"{title_of(asked.file)}, chain {asked.chain}" if schedule.chain_count > 1 else title_of(asked.file)
-    write(asked.output, curve.picture(chain, figures, name).encode(), asked.file)
+    write(asked.output, curve.picture(chain, figures, name_of(schedule, asked)).encode(), asked.file)
+    return 0
+
+
+def do_histogram(asked) -> int:
+    schedule = schedule_of(asked.file)
+    chain = chain_of(schedule, asked.file, asked.chain)
+    figures = on_chain(schedule, asked.chain, lambda: analysis.made(chain))
+    bars = on_chain(schedule, asked.chain, lambda: analysis.histogram(figures, asked.width))
+    if asked.output is None:
+        say(words.histogram(asked.chain, figures, bars))
+    else:
+        write(asked.output, histogram.picture(figures, bars, name_of(schedule, asked)).encode(), asked.file)
     return 0
 
 
@@ -231,6 +247,10 @@ COMMANDS = (
     ("delay", do_delay, "how long a press at a tick waits, and by which jobs it is booked", (FILE, TICK, CHAIN, CHAIN_TOO), "delay examples/laser.schedule 95ms"),
     ("age", do_age, "how old the newest reading is that a leg at a tick is booked from, and through which jobs it came", (FILE, TICK, CHAIN, CHAIN_TOO), "age examples/two-boards.schedule 325000 2"),
     ("curve", do_curve, "draw the delay of a press over one hyperperiod", (FILE, ("-o", {"dest": "output", **OUTPUT}), ONE_CHAIN), "curve examples/waters19-c1.schedule -o waters.svg"),
+    ("histogram", do_histogram, "count how many ticks of one hyperperiod have each delay", (
+        FILE, ("--width", {"metavar": "W", "type": as_ticks, "required": True, "help": "the delays are counted in steps of this: in ticks of 1 us, or with a unit, as 5ms"}), ONE_CHAIN,
+        ("-o", {"dest": "output", "metavar": "OUT", "help": "the picture to write, or - for standard output; where none is named, bars of text are printed"}),
+    ), "histogram examples/waters19-c1.schedule --width 20ms"),
     ("page", do_page, "make a page of everything", (
         FILE, ("-o", {"dest": "output", **OUTPUT}),
         ("--bound", {"metavar": "B", "type": as_ticks, "default": None, "help": "the delay that should not be exceeded; 95 %% of each chain's greatest where none is named"}),
@@ -284,7 +304,7 @@ def main(given: Optional[List[str]] = None) -> int:
     except Unsound as why:
         print(why, file=sys.stderr)
         return 1
-    except (Stop, Missing, calls.Broken, analysis.Disagreement) as why:
+    except (Stop, Missing, calls.Broken, analysis.Disagreement, analysis.TooNarrow) as why:
         print(f"{PROGRAM}: {why}", file=sys.stderr)
         return 2
     except Exception:

@@ -10,7 +10,7 @@ from typing import List, NamedTuple, Tuple
 
 from . import calls, measures
 from .analysis import SLOTS, Figures
-from .drawing import Axis, apart, at, document, dot, line, text, wide
+from .drawing import ALONE, ROOM_UP, Axis, Frame, apart, document, dot, grid, line, text, wide
 from .lent import Chain, Table
 from .measures import counted
 
@@ -18,31 +18,6 @@ from .measures import counted
 PIXELS = 3
 # As many anchors as an instrument's report has room for are marked, with more the marks would be one band.
 MOST_MARKS = SLOTS
-# How far the marks of the delays lie apart, in pixels.
-ROOM_UP = 38
-
-
-class Frame(NamedTuple):
-    """The size of a picture and of the curve in it, with a title above it or without."""
-
-    width: int
-    height: int
-    left: int
-    right: int
-    top: int
-    bottom: int
-    kind: str
-    titled: bool
-
-    def singly(self, anchors: int) -> bool:
-        """Whether so many anchors are drawn one by one."""
-        return anchors * PIXELS <= self.right - self.left
-
-
-# A picture for itself, one in a page, and one in a page of a phone's width.
-ALONE = Frame(900, 420, 74, 778, 58, 362, "alone", True)
-WIDE = Frame(900, 360, 74, 778, 12, 302, "wide", False)
-NARROW = Frame(420, 320, 72, 306, 12, 262, "narrow", False)
 
 
 class Span(NamedTuple):
@@ -113,13 +88,17 @@ def axes(figures: Figures, frame: Frame) -> Tuple[Axis, Axis]:
     return Axis(figures.warm, figures.warm + figures.hyperperiod, left, right), up
 
 
+def singly(figures: Figures, frame: Frame) -> bool:
+    """Whether the anchors are drawn one by one."""
+    return figures.table.anchors * PIXELS <= frame.right - frame.left
+
+
 def picture(chain: Chain, figures: Figures, name: str, frame: Frame = ALONE) -> str:
     """The picture of a chain's curve."""
     across, up = axes(figures, frame)
-    singly = frame.singly(figures.table.anchors)
-    parts = [*_titles(figures, name, frame, singly), *_grid(across, up)]
+    parts = [*_titles(figures, name, frame), *grid(across, up, "press at", "delay")]
     drawn = _levels(figures, across, up)
-    parts += [*drawn, *_sawtooth(figures, across, up)] if singly else [*_columns(chain, figures, across, up), *drawn]
+    parts += [*drawn, *_sawtooth(figures, across, up)] if singly(figures, frame) else [*_columns(chain, figures, across, up), *drawn]
     return document(frame.width, frame.height, f"{name}: delay of a press over one hyperperiod", parts, frame.kind)
 
 
@@ -129,28 +108,12 @@ def close(figures: Figures) -> str:
     return f"{figures.table.anchors:,} anchors{many}; each column spans the delays in it"
 
 
-def _titles(figures: Figures, name: str, frame: Frame, singly: bool) -> List[str]:
+def _titles(figures: Figures, name: str, frame: Frame) -> List[str]:
     if not frame.titled:
         return []
-    anchors = f"from the warm-up tick, {counted(figures.table.anchors, 'anchor')}" if singly else close(figures)
+    anchors = f"from the warm-up tick, {counted(figures.table.anchors, 'anchor')}" if singly(figures, frame) else close(figures)
     below = f"one hyperperiod of {measures.short(figures.hyperperiod)}, {anchors}"
     return [text(frame.left, 26, f"{name}: delay of a press", "ink title"), text(frame.left, 45, below, "faint")]
-
-
-def _grid(across: Axis, up: Axis) -> List[str]:
-    left, right, top, bottom = across.start, across.end, up.end, up.start
-    parts = []
-    for value in up.marks(ROOM_UP):
-        y = up.place(value)
-        parts += [line("hair grid-line", [(left, y), (right, y)]), text(left - 8, y + 4.5, up.label(value), "faint", "end")]
-    for value in across.marks(88):
-        x = across.place(value)
-        parts += [line("hair grid-line", [(x, top), (x, bottom + 5)]), text(x, bottom + 21, across.label(value), "faint", "middle")]
-    parts.append(line("hair faint-line", [(left, top), (left, bottom), (right, bottom)]))
-    parts.append(text((left + right) / 2, bottom + 44, f"press at ({measures.sign(across.unit())})", "ink", "middle"))
-    middle = (top + bottom) / 2
-    parts.append(text(15, middle, f"delay ({measures.sign(up.unit())})", "ink", "middle", f' transform="rotate(-90 15 {at(middle)})"'))
-    return parts
 
 
 def _levels(figures: Figures, across: Axis, up: Axis) -> List[str]:

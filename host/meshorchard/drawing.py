@@ -1,8 +1,9 @@
-"""Pieces of pictures in SVG: axes with round numbers, lines, texts, and the colours for light and dark."""
+"""Pieces of pictures in SVG: frames, axes with round numbers and their grid, lines, texts, and the colours for light and dark."""
 from __future__ import annotations
 
+import itertools
 from html import escape
-from typing import Iterable, List, NamedTuple
+from typing import Iterable, Iterator, List, NamedTuple
 
 from . import measures
 
@@ -18,6 +19,28 @@ COLOURS = (
     ("low", "#1b7a3d", "#70d694"),
     ("idle", "#c9d1d9", "#3c4651"),
 )
+# How far the marks of an axis lie apart, in pixels: across, where a label stands below each, and up.
+ROOM_ACROSS = 88
+ROOM_UP = 38
+
+
+class Frame(NamedTuple):
+    """The size of a picture and of what is drawn between its axes, with a title above it or without."""
+
+    width: int
+    height: int
+    left: int
+    right: int
+    top: int
+    bottom: int
+    kind: str
+    titled: bool
+
+
+# A picture for itself, one in a page, and one in a page of a phone's width.
+ALONE = Frame(900, 420, 74, 778, 58, 362, "alone", True)
+WIDE = Frame(900, 360, 74, 778, 12, 302, "wide", False)
+NARROW = Frame(420, 320, 72, 306, 12, 262, "narrow", False)
 
 
 def rules(picture: str) -> str:
@@ -75,6 +98,12 @@ def dot(kind: str, x: float, y: float, radius: float, title: str, more: str = ""
     return f'<circle class="{kind}" cx="{at(x)}" cy="{at(y)}" r="{at(radius)}"{more}><title>{escape(title)}</title></circle>'
 
 
+def rounds() -> Iterator[int]:
+    """The round numbers: 1, 2, 5, 10, 20, 50 and so on."""
+    for power in itertools.count():
+        yield from (times * 10**power for times in (1, 2, 5))
+
+
 class Axis(NamedTuple):
     """Ticks from first to last, drawn from one coordinate to another."""
 
@@ -91,12 +120,8 @@ class Axis(NamedTuple):
 
     def step(self, room: float) -> int:
         """The smallest round number of ticks whose marks are this far apart."""
-        apart, step = (self.last - self.first) * room / abs(self.end - self.start), 1
-        while True:
-            for times in (1, 2, 5):
-                if times * step >= apart:
-                    return times * step
-            step *= 10
+        apart = (self.last - self.first) * room / abs(self.end - self.start)
+        return next(step for step in rounds() if step >= apart)
 
     def marks(self, room: float) -> List[int]:
         """Round numbers on the axis, at least two, since one gives no scale: closer together where it must be."""
@@ -107,6 +132,39 @@ class Axis(NamedTuple):
 
     def label(self, value: int) -> str:
         return measures.in_unit(value, self.unit())
+
+    def name(self, of: str) -> str:
+        """What stands at the axis: what it is of, and its unit."""
+        return f"{of} ({measures.sign(self.unit())})"
+
+
+class Counts(Axis):
+    """An axis of plain numbers, which have no unit."""
+
+    __slots__ = ()
+
+    def label(self, value: int) -> str:
+        return f"{value:,}"
+
+    def name(self, of: str) -> str:
+        return of
+
+
+def grid(across: Axis, up: Axis, below: str, beside: str, room: float = ROOM_ACROSS) -> List[str]:
+    """The two axes with their marks, a line through the picture at each, and what they are of. Those across lie so far apart."""
+    left, right, top, bottom = across.start, across.end, up.end, up.start
+    parts = []
+    for value in up.marks(ROOM_UP):
+        y = up.place(value)
+        parts += [line("hair grid-line", [(left, y), (right, y)]), text(left - 8, y + 4.5, up.label(value), "faint", "end")]
+    for value in across.marks(room):
+        x = across.place(value)
+        parts += [line("hair grid-line", [(x, top), (x, bottom + 5)]), text(x, bottom + 21, across.label(value), "faint", "middle")]
+    parts.append(line("hair faint-line", [(left, top), (left, bottom), (right, bottom)]))
+    parts.append(text((left + right) / 2, bottom + 44, across.name(below), "ink", "middle"))
+    middle = (top + bottom) / 2
+    parts.append(text(15, middle, up.name(beside), "ink", "middle", f' transform="rotate(-90 15 {at(middle)})"'))
+    return parts
 
 
 def apart(places: List[float], room: float) -> List[float]:

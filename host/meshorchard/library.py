@@ -26,6 +26,7 @@ DECLARED = {
     "mo_mean": (*TABLE, NUMBERS, NUMBERS),
     "mo_throughput": (*TABLE, NUMBERS, NUMBERS),
     "mo_exceedance": (*TABLE, NUMBER, NUMBERS, NUMBERS),
+    "mo_histogram": (*TABLE, NUMBER, NUMBERS, SIZE, NUMBERS),
     "mo_check": (*CHAIN, NUMBERS),
     "mo_warm_up": (*CHAIN, NUMBERS, NUMBERS, NUMBERS),
     "mo_delay": (*CHAIN, NUMBER, NUMBERS),

@@ -63,19 +63,25 @@ def ticks(word: str, unit: Optional[str] = None) -> int:
     return int(exact)
 
 
-def decimal(value: Fraction, digits: int = 3) -> str:
-    """A number with separators, exact where so many digits after the point suffice, else rounded and marked."""
+def decimal(value: Fraction, digits: int = 3, zeros: bool = False) -> str:
+    """A number with separators, exact where so many digits after the point suffice, else rounded and marked. Zeros at its end are left out, or stay."""
     scaled = value * 10**digits
     exact = scaled.denominator == 1
     rounded = (2 * scaled.numerator + scaled.denominator) // (2 * scaled.denominator)
     before, after = divmod(rounded, 10**digits)
-    shown = f"{before:,}.{after:0{digits}d}".rstrip("0").rstrip(".") if digits else f"{before:,}"
+    shown = f"{before:,}.{after:0{digits}d}" if digits else f"{before:,}"
+    shown = shown.rstrip("0").rstrip(".") if digits and not zeros else shown
     return shown if exact else f"≈ {shown}"
 
 
-def in_unit(value, unit: str) -> str:
+def percent(part: int, whole: int) -> str:
+    """A share to a tenth of a percent. The tenth always stands there, so that shares below each other align at their points."""
+    return f"{decimal(Fraction(100 * part, whole), 1, True)} %"
+
+
+def in_unit(value, unit: str, digits: int = 3, zeros: bool = False) -> str:
     """Ticks in a unit, without its name."""
-    return decimal(Fraction(value) / (1000 if unit == "ms" else 1))
+    return decimal(Fraction(value) / (1000 if unit == "ms" else 1), digits, zeros)
 
 
 def said(value) -> str:

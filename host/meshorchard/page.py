@@ -1,11 +1,11 @@
-"""One page on a schedule file: the schedule, each chain's figures, curve and worst way, bounds, and chains side by side. It needs nothing from elsewhere."""
+"""One page on a schedule file: the schedule, each chain's figures, curve, histogram and worst way, bounds, and chains side by side. It needs nothing from elsewhere."""
 from __future__ import annotations
 
 import itertools
 from html import escape
 from typing import List, Optional, Sequence
 
-from . import calls, curve, drawing, timeline, words
+from . import analysis, calls, curve, drawing, histogram, timeline, words
 from .analysis import Figures, made, slots_table
 from .lent import Chain, Schedule
 from .measures import counted, in_unit, short, sign, unit_for
@@ -36,7 +36,7 @@ dd{margin:0;font-size:18px;font-weight:600;font-variant-numeric:tabular-nums}
 .refused{border-left:4px solid var(--warn);background:var(--card);padding:10px 14px;border-radius:0 8px 8px 0;overflow-wrap:anywhere}
 .refused strong{color:var(--warn)}
 svg.picture{display:block;width:100%;height:auto;margin:6px 0}
-svg.narrow,p.narrow{display:none}
+svg.narrow,p.narrow,svg.sheet,p.sheet{display:none}
 @media (max-width:640px){body{font-size:15px}main{padding:16px 14px 28px}h1{font-size:23px}h2{margin-top:28px}svg.wide,p.wide{display:none}svg.narrow,p.narrow{display:block}
 dl{grid-template-columns:repeat(2,1fr);gap:8px}dd{font-size:17px}th,td{padding-right:10px}}
 @page{size:A4;margin:10mm}
@@ -45,12 +45,19 @@ body{font-size:9pt;line-height:1.3}main{max-width:none;padding:0}h1{font-size:15
 p{margin:1pt 0}table{margin:2pt 0}.faint,footer,th{font-size:8pt}th,td{padding:0 6pt 0 0}dl{display:none}footer{margin-top:4pt;padding-top:3pt}
 .tasks{flex-wrap:nowrap;gap:0 8mm}section,.refused{break-inside:avoid}.refused{padding:0 5pt;border-left-width:2pt}
 svg.picture{margin:1pt auto}svg.wide,p.wide{display:block}svg.narrow,p.narrow{display:none}
-.chains-1 .curve svg{max-height:66mm}.chains-1 .way svg{max-height:60mm}.words{font-size:8pt}
-.several .chains{display:grid;grid-template-columns:1fr 1fr;gap:0 7mm}.several .wide{display:none}.several .narrow{display:block}.several .words{display:none}
-.several .curve svg{max-height:60mm}.several .way svg{max-height:62mm}.several .pairs{columns:2}
-.many{font-size:7pt;line-height:1.2}.many h2{font-size:8.5pt}.many h3{font-size:7.5pt;margin:1pt 0 0}.many .pictures h3{display:none}.many th,.many .faint,.many footer{font-size:7pt}
-.many .curve svg{max-height:36mm}.many .way svg{max-height:27mm}}
+.pictures{display:grid;gap:0 4mm;align-items:start}.words{font-size:8pt}
+.chains-1 .pictures{grid-template-columns:640fr 420fr}.chains-1 .way{grid-column:1/3}.chains-1 svg{max-height:60mm}
+.chains-1 .curve .wide,.chains-1 .often .wide{display:none}.chains-1 .curve .sheet,.chains-1 .often .narrow{display:block}
+.several .pictures{grid-template-columns:repeat(3,1fr)}.several svg{max-height:52mm}.several .pictures h3{font-size:7.5pt}.several .pictures p{font-size:7pt}
+.several .wide{display:none}.several .narrow{display:block}.several .words{display:none}.several .pairs{columns:2}
+.many{font-size:7pt;line-height:1.2}.many h2{font-size:8.5pt}.many h3{font-size:7.5pt;margin:1pt 0 0}.many .pictures h3,.many .often p{display:none}.many th,.many .faint,.many footer{font-size:7pt}
+.many .chains{display:grid;grid-template-columns:1fr 1fr;gap:0 7mm}.many .pictures{grid-template-columns:1fr 1fr}.many .way{grid-column:1/3}.many svg{max-height:34mm}.many .way svg{max-height:27mm}}
 """
+
+
+# Curves and histograms are drawn for a wide window and for a narrow one. On the sheet of one chain the curve has a frame of its own, which leaves room for the histogram beside it.
+FRAMES = (drawing.WIDE, drawing.NARROW)
+SHEET = drawing.Frame(640, 320, 74, 518, 12, 262, "sheet", False)
 
 
 # What the words and the signs mean, on the screen and on the sheet of one chain.
@@ -58,8 +65,9 @@ WORDS = """<section class="words"><h2>How to read this page</h2>
 <p><b>Delay</b>: the time from a press until it is booked, the write of the last task. <b>Hyperperiod</b>: the time after which the delays repeat. <b>Warm-up tick</b>: presses before it
 are not counted, since the chain still fills. <b>Anchor</b>, a dot on the curve: from there the delay falls by one tick a tick until the next one; the anchors are the table that the instrument
 makes. A hollow dot is not reached, and neither is the <b>low</b>. A job of the <b>first place</b> is one sample; its own time begins with its read, a press has waited before that.</p>
-<p>In the picture of a way a blue bar is a job that carries the press, from its read to its write, a line the wait for the next task's read, a grey bar another job of the task; a dotted
-line stands for the jobs of a row of more than 80.</p></section>
+<p>In the picture of how often each delay occurs a bar counts the ticks of one hyperperiod with a delay from its left edge up to below its right one. In the picture of a way a blue bar
+is a job that carries the press, from its read to its write, a line the wait for the next task's read, a grey bar another job of the task; a dotted line stands for the jobs of a row of
+more than 80.</p></section>
 """
 
 
@@ -83,11 +91,11 @@ class Page:
         self.refusals.append(sentence)
 
     def text(self) -> str:
-        """The whole page: on paper several chains stand side by side, and more than two are smaller."""
+        """The whole page: on paper the pictures of a chain stand in a row where there are two chains, and more than two chains stand side by side and are smaller."""
         kind = "chains-1" if self.chains < 2 else "several" if self.chains == 2 else "several many"
         head = '<!doctype html>\n<html lang="en">\n<head>\n<meta charset="utf-8">\n<meta name="viewport" content="width=device-width, initial-scale=1">'
         style = f"<title>{escape(self.name)}: delays</title>\n<style>{STYLE}{drawing.rules('.picture')}</style>"
-        foot = f"{WORDS}<footer>The figures, curves and ways on this page come from the proved calls of Meshorchard. 1 tick is 1 µs.</footer>" if self.chains else ""
+        foot = f"{WORDS}<footer>The figures, curves, counts and ways on this page come from the proved calls of Meshorchard. 1 tick is 1 µs.</footer>" if self.chains else ""
         return "\n".join([head, style, f'</head>\n<body>\n<main class="{kind}">', *self.parts, foot, "</main>\n</body>\n</html>"]) + "\n"
 
 
@@ -136,13 +144,23 @@ def _tasks(page: Page, schedule: Schedule) -> None:
 def _chain(page: Page, chain: Chain, number: int, tasks: Sequence[int], bound: Optional[int], jobs: int) -> None:
     figures = made(chain)
     _figures(page, figures)
+    frames = (*FRAMES, SHEET) if page.chains == 1 else FRAMES
     page.add('<div class="pictures">', '<div class="curve">', "<h3>Delay of a press over one hyperperiod</h3>")
-    page.add(*[f'<p class="faint {frame.kind}">{curve.close(figures)}.</p>' for frame in (curve.WIDE, curve.NARROW) if not frame.singly(figures.table.anchors)])
-    page.add(*[curve.picture(chain, figures, f"chain {number}", frame) for frame in (curve.WIDE, curve.NARROW)])
-    page.add("</div>", '<div class="way">', f"<h3>The way of the worst press, at {short(figures.worst)}</h3>")
+    page.add(*[f'<p class="faint {frame.kind}">{curve.close(figures)}.</p>' for frame in frames if not curve.singly(figures, frame)])
+    page.add(*[curve.picture(chain, figures, f"chain {number}", frame) for frame in frames], "</div>")
+    _often(page, figures, number)
+    page.add('<div class="way">', f"<h3>The way of the worst press, at {short(figures.worst)}</h3>")
     page.add(*[timeline.picture(chain, tasks, figures.worst, f"chain {number}", frame) for frame in (timeline.WIDE, timeline.NARROW)])
     page.add("</div>", "</div>")
     _bounds(page, chain, figures, bound, jobs)
+
+
+def _often(page: Page, figures: Figures, number: int) -> None:
+    """How often each delay occurs, in steps of a round width."""
+    width = histogram.round_width(figures)
+    bars = analysis.histogram(figures, width)
+    page.add('<div class="often">', "<h3>How often each delay occurs</h3>", *[histogram.picture(figures, bars, f"chain {number}", frame) for frame in FRAMES])
+    page.add(f'<p class="faint">Ticks of one hyperperiod; each bar is {short(width)} wide.</p>', "</div>")
 
 
 def _figures(page: Page, figures: Figures) -> None:

@@ -60,6 +60,7 @@ MEANINGS = {
         "the cuts do not part the chain into sections",
         "cut c parts place c from the next, so each cut is 1 to the number of places less 1, and above the cut before; a chain of one place has none",
     ),
+    18: Meaning("the width is 0", "a width is 1 tick or more; delays are counted in steps of it"),
 }
 
 # What the place counts: in a file, in a schedule, in a chain.

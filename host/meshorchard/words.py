@@ -4,16 +4,25 @@ from __future__ import annotations
 from typing import List, Sequence, Tuple
 
 from . import calls, diagnosis
-from .analysis import SLOTS, Disagreement, Job, first_leg, slots_table, way_of_leg, way_of_press
+from .analysis import SLOTS, Bar, Disagreement, Figures, Job, first_leg, slots_table, way_of_leg, way_of_press
 from .lent import Schedule
-from .measures import counted, said, short
+from .measures import counted, in_unit, percent, said, short, sign, unit_for
 from .refusals import Refused
+
+# How long the bar of the largest count is.
+LONGEST_BAR = 40
 
 
 def columns(rows: Sequence[Sequence[str]]) -> List[str]:
     """Rows of cells, the cells of a column equally wide."""
     widths = [max(map(len, cells)) for cells in zip(*rows)]
     return ["  " + "  ".join(cell.ljust(width) for cell, width in zip(row, widths)).rstrip() for row in rows]
+
+
+def flush_right(cells: Sequence[str]) -> List[str]:
+    """The cells of a column of numbers, equally wide, so that their digits stand below each other."""
+    width = max(map(len, cells))
+    return [cell.rjust(width) for cell in cells]
 
 
 def of_file(name: str, data: bytes, refused: Refused) -> str:
@@ -144,6 +153,24 @@ def sections(schedule: Schedule, number: int, cuts: Sequence[int]) -> List[str]:
         *columns(rows),
         f"  the sum{gaps} is {said(found.sum)}",
         f"  the whole chain's greatest latency is {said(whole)}",
+    ]
+
+
+def histogram(number: int, figures: Figures, bars: Sequence[Bar]) -> List[str]:
+    """How often each delay occurs, as bars: the longest is that of the largest count, and what occurs at all has one sign at least."""
+    width, unit, top = bars[0].stop - bars[0].start, unit_for(bars[-1].stop), max(bar.count for bar in bars)
+    # The ends have as many digits after the point as the width needs.
+    digits = len(in_unit(width, unit).partition(".")[2])
+    starts, stops = (flush_right([in_unit(end, unit, digits, True) for end in ends]) for ends in ([bar.start for bar in bars], [bar.stop for bar in bars]))
+    counts, shares = flush_right([f"{bar.count:,}" for bar in bars]), flush_right([percent(bar.count, figures.hyperperiod) for bar in bars])
+    rows = []
+    for bar, start, stop, count, share in zip(bars, starts, stops, counts, shares):
+        signs = max(1, (2 * LONGEST_BAR * bar.count + top) // (2 * top)) if bar.count else 0
+        rows.append((f"from {start} {sign(unit)} to below {stop} {sign(unit)}", f"{count} {'tick' if bar.count == 1 else 'ticks'}", share, "#" * signs))
+    return [
+        f"chain {number}, hyperperiod {said(figures.hyperperiod)}, width {said(width)}: how often each delay occurs",
+        *columns(rows),
+        f"  together {counted(sum(bar.count for bar in bars), 'tick')}: every tick of a hyperperiod",
     ]
 
 
