@@ -2,15 +2,14 @@
 -- the published integral divided by H, and not only of the delays at whole ticks. The hyperperiod may begin at any tick from the warm-up tick on.
 use Prim.Native.Nat.{ℕ, _*_, _≤_}
 use native.Mathlib.Omega.{arith}
-use mathlib.Core.Path.{_≡_, sym, ap, _∙_}
+use mathlib.Core.Path.{_≡_}
 use mathlib.Core.List.{List}
 use lib.ListN.{length}
 use Rattle.chain.specs.declared.Chain.{Chain}
 use Rattle.chain.specs.Chains.{tasksOf}
 use Rattle.timing.specs.Delay.{delayAt}
 use Rattle.timing.specs.FinerClock.{delayTimed, delay-falls}
-use Rattle.table.specs.Anchors.{Anchor, anchors, firstStart}
-use Rattle.table.specs.Reading as table
+use Rattle.table.specs.Anchors.{Anchor, anchors}
 use Rattle.table.specs.Segments.{Formed}
 use Rattle.table.specs.BothWays.{well-formed-iff, well-formed-laws}
 use Rattle.figures.specs.declared.Mean.the-variants.{Doubled}
@@ -21,8 +20,7 @@ use Rattle.maker.specs.declared.Figures.{Figures}
 use Rattle.maker.specs.declared.Made.{Made}
 use Rattle.maker.specs.declared.Made.the-variants.{Whole}
 use Rattle.maker.specs.Making.{figuresOf, Makes}
-use Rattle.agreement.specs.ReadsAsWalk.{table-walk}
-use Rattle.agreement.specs.MadeTable.{made-anchors, made-first, made-well-formed}
+use Rattle.agreement.specs.MadeTable.{made-well-formed}
 use Rattle.agreement.specs.Agreement.{held, made-first-start, made-as-walk}
 use Rattle.agreement.specs.EveryChain.{Asked, anchorCount, every-chain}
 

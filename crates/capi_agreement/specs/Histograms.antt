@@ -1,7 +1,7 @@
 -- mo_histogram beside mo_greatest, of any table: with latency / width + 1 entries none lies beyond the list.
 use Prim.Native.Nat.{ℕ, _+_, _/_}
 use mathlib.Core.Path.{_≡_, ap, _∙_}
-use mathlib.Core.List.{List, [], _∷_}
+use mathlib.Core.List.{List}
 use lib.ListN.{length, getD}
 use Rattle.table.specs.Anchors.{anchors}
 use Rattle.table.specs.Figures.{greatest}

@@ -16,7 +16,7 @@ use Rattle.table.specs.EveryTable.{first-start}
 use Rattle.table.specs.Delays.{greatest-small}
 use Rattle.figures.specs.ByAnchors.{segments}
 use Rattle.histogram.specs.declared.Histogram.the-variants.{Rest, Refused}
-use Rattle.histogram.specs.Histogram.{entryOf, restOf, histogramOf, countsAfter, countsOf, Gives}
+use Rattle.histogram.specs.Histogram.{entryOf, restOf, histogramOf, countsOf, Gives}
 use Rattle.histogram.specs.Counting.{come-to-H}
 use Rattle.histogram.specs.Differences.{modulus, opposite, shifted, withRange, withAnchor, upTo, length-anchors}
 use Rattle.histogram.specs.Entries.{widest, differences, entry-found}

@@ -1,6 +1,6 @@
 -- How long a list must be: it holds every delay, and the rest is 0, exactly if the greatest latency lies below n × width. So greatest latency / width + 1 entries suffice, and a width
 -- above the greatest latency has all ticks in entry 0.
-use Prim.Native.Nat.{ℕ, zero, suc, _+_, _*_, _/_, _%_, _≤_, _<_}
+use Prim.Native.Nat.{ℕ, zero, suc, _+_, _*_, _/_, _≤_, _<_}
 use native.Mathlib.Omega.{arith}
 use native.Mathlib.Nat.{div-add-mod', mod-lt}
 use native.Mathlib.Decide.{decLt}

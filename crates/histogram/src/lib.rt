@@ -13,9 +13,10 @@ ghost use Rattle.histogram.specs.Histogram.{Gives};
 ghost use Rattle.histogram.specs.Differences.{modulus, addedAt, opposite, shifted, withRange, withAnchor, upTo};
 ghost use Rattle.histogram.specs.Entries.{widest};
 
-// The numbers of the two refusals.
+// The refusal of a table that is not well-formed.
 const NOT_WELL_FORMED: u64 = 14;
 
+// The refusal of a width of 0.
 const WIDTH_ZERO: u64 = 18;
 
 // One more than the greatest latency that a table may have. No delay reaches it, so a greater width counts the same.
