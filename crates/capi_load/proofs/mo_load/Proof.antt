@@ -1,0 +1,34 @@
+-- `capi_load::mo_load` meets its contract.
+use native.Mathlib.Omega.{arith}
+use mathlib.Core.Path.{ap, _∙_}
+use borrow.Author.Needs.{needs}
+use Rattle.refusal.specs.Refusals.{codeOf}
+use Rattle.chain.specs.Flat.{flatChain}
+use Rattle.load.specs.declared.Load.{Load}
+use Rattle.load.specs.Passes.{refused-with}
+use Rattle.capi_load.proofs.mo_load.Statement.{statement}
+use Rattle.capi_load.proofs.mo_load.Tie as tie
+
+make-load-requires : tie.Need-make-load-requires
+make-load-requires c κs = search needs
+
+flat-requires : tie.Need-flat-requires
+flat-requires c κs = search needs
+
+code-requires : tie.Need-code-requires
+code-requires c κs =
+    let m = c .before .before .make-load in
+    let a = c .before .before .before .args in
+    let s = refused-with (a .seed) (a .places) in
+    rw (m .ensures) (omega (arith, s .0), omega (arith, s .1))
+
+returns : tie.Need-returns
+returns c =
+    let m = c .before .before .before .make-load in
+    record {
+      answers = c .code .ensures ∙ ap (λ (x : Load). codeOf (x .refusal)) (m .ensures);
+      gives-tasks = c .before .before .flat .ensures ∙ ap (λ (x : Load). flatChain (x .chain .tasks)) (m .ensures);
+    }
+
+pub mo-load-spec : {M : Type 1} → statement M
+mo-load-spec = tie.close (tie.spec make-load-requires flat-requires code-requires returns)

@@ -1,0 +1,3 @@
+pub mod Load
+pub mod Passes
+pub mod Weights
