@@ -81,16 +81,16 @@ right-of s a w =
     }
 
 -- The schedule of such tasks, chains and gap: its routes are those of the chains,
-routes-front : (ts : List NumberedTask) (chs : List (List ℕ)) (g : ℕ) → Right ts chs g → routesIn (scheduleOf ts chs g) ≡ map routeOf chs
+pub routes-front : (ts : List NumberedTask) (chs : List (List ℕ)) (g : ℕ) → Right ts chs g → routesIn (scheduleOf ts chs g) ≡ map routeOf chs
 routes-front ts chs g r =
     let n : length (map routeOf chs) ≡ length chs = length-map chs routeOf in
     ap (λ (k : ℕ). take k (padded 4 emptyRoute (map routeOf chs))) (sym n) ∙ take-padded emptyRoute 4 (map routeOf chs) (omega (arith, r .few-chains))
 
-routes-back : (ts : List NumberedTask) (chs : List (List ℕ)) (g : ℕ) → Right ts chs g → chainsIn (scheduleOf ts chs g) ≡ chs
+pub routes-back : (ts : List NumberedTask) (chs : List (List ℕ)) (g : ℕ) → Right ts chs g → chainsIn (scheduleOf ts chs g) ≡ chs
 routes-back ts chs g r = ap (map placesOf) (routes-front ts chs g r) ∙ routes-same (map numberOf ts) chs (r .placed)
 
 -- it is sound,
-right-sound : (ts : List NumberedTask) (chs : List (List ℕ)) (g : ℕ) → Right ts chs g → SoundSchedule (scheduleOf ts chs g)
+pub right-sound : (ts : List NumberedTask) (chs : List (List ℕ)) (g : ℕ) → Right ts chs g → SoundSchedule (scheduleOf ts chs g)
 right-sound ts chs g r = record {
   some = r .some;
   few = r .few;
@@ -103,7 +103,7 @@ right-sound ts chs g r = record {
 }
 
 -- and its arrays have their lengths.
-right-arrays : (ts : List NumberedTask) (chs : List (List ℕ)) (g : ℕ) → Right ts chs g → Arrays (scheduleOf ts chs g)
+pub right-arrays : (ts : List NumberedTask) (chs : List (List ℕ)) (g : ℕ) → Right ts chs g → Arrays (scheduleOf ts chs g)
 right-arrays ts chs g r = record {
   tasks = length-padded zeroNumbered 32 ts (r .few);
   routes = length-padded emptyRoute 4 (map routeOf chs) (omega (arith, length-map chs routeOf, r .few-chains));

@@ -1,0 +1,4 @@
+pub mod LoadFile
+pub mod Answers
+pub mod ReadBack
+pub mod EveryWord
