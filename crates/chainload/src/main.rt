@@ -1,0 +1,26 @@
+// Program `chainload SEED PLACES`: writes the schedule file of the chain that a seed and a number of places make to standard output.
+// The same words give the same bytes on every machine, so clubs can trade the two numbers for the file.
+//
+// Words that it does not take are told by one line on standard error, and nothing is written to standard output. The status is 0 all the same, since the toolchain gives a program no other;
+// ./load gives one. A write that fails is told on standard error, with the system's reason.
+// What is put out for the words is proved (`load_file::answer_to`), also that it fits its bytes. A word of more than 20 bytes comes as an empty one, which is no number.
+// Not proved, since no contract can say it: that the system gives the words of the command line, and that its write puts these bytes out.
+use libc::STDERR_FILENO;
+use libc::STDOUT_FILENO;
+
+fn main() {
+    let mut seed = [0u8; 20];
+    let mut places = [0u8; 20];
+    let m = os::arg(1, &mut seed);
+    let n = os::arg(2, &mut places);
+    let a = load_file::answer_to(os::arg_count(), &seed[..m], &places[..n]);
+    let bytes = a.bytes;
+    let long = a.long;
+    if a.made {
+        if !io::write_all(STDOUT_FILENO, &bytes[..long]) {
+            os::fail(b"chainload: writing the schedule file");
+        }
+    } else {
+        io::write_all(STDERR_FILENO, &bytes[..long]);
+    }
+}
