@@ -1,9 +1,11 @@
 """Reference program of Meshorchard: delay tables for chains of
 fixed-duration tasks of cave-survey laser instruments.
 
-It is written from document 01 and orders 1 to 3 and 5 to 7 of document 02
+It is written from document 01 and orders 1 to 3 and 5 to 8 of document 02
 alone and follows their definitions as literally as running time allows.  It
-uses the standard library only.  Order 4 changes no answer.
+uses the standard library only.  Order 4 changes no answer.  Only the words
+and lines of chainload, and the task numbers in its file, are not in these
+documents; they are a decision of the project.
 
 Conventions
   A task is (T, D, F): period, duration, phase.
@@ -1121,6 +1123,99 @@ def bookings_of(task_count, tasks, chain_count, chains, gap, first, second,
 
 
 # ---------------------------------------------------------------------------
+# A test load
+# ---------------------------------------------------------------------------
+
+DRAW_STEP = 0x9E3779B97F4A7C15
+DRAW_MODULUS = 2 ** 64
+DRAW_SHIFT = 31
+LOAD_MODULUS = 97
+LOAD_GAP = 0
+
+# The periods of order 8: the first and the last number that pick it, and the
+# period in microseconds, which are ticks.
+LOAD_PERIODS = [
+    (0, 0, 2_500),
+    (1, 10, 5_000),
+    (11, 43, 10_000),
+    (44, 58, 20_000),
+    (59, 81, 40_000),
+    (82, 96, 80_000),
+]
+
+
+def draw(s):
+    """One draw from the state s: (the state it sets, the number it gives).
+
+    Document 02, order 8: "each draw sets s to s + 9E3779B97F4A7C15
+    (hexadecimal) modulo 2^64 and gives s xor (s shifted right by 31)."  The
+    number is had from the s just set.
+    """
+    s = (s + DRAW_STEP) % DRAW_MODULUS
+    return (s, s ^ (s >> DRAW_SHIFT))
+
+
+def draws(seed, count):
+    """The first `count` draws from a seed, in order."""
+    s = seed
+    numbers = []
+    for _ in range(count):
+        s, number = draw(s)
+        numbers.append(number)
+    return numbers
+
+
+def load_period(number):
+    """The period that a number from 0 to 96 picks."""
+    for first, last, period in LOAD_PERIODS:
+        if first <= number <= last:
+            return period
+    raise ValueError("the number picks no period")
+
+
+def load(seed, places):
+    """A test load: ("ok", tasks, gap), or refusal 8.
+
+    Document 02, order 8: "For each place a first draw modulo 97 picks the
+    period in us [...].  A second draw modulo the period is the phase;
+    duration equals period, gap 0."  The draws go on from place to place.
+    The seed is a 64-bit number; places is any.
+    """
+    if not 1 <= places <= MOST_PLACES:
+        return refused(8)
+    s = seed
+    tasks = []
+    for _place in range(places):
+        s, first = draw(s)
+        period = load_period(first % LOAD_MODULUS)
+        s, second = draw(s)
+        phase = second % period
+        duration = period
+        tasks.append((period, duration, phase))
+    return ("ok", tasks, LOAD_GAP)
+
+
+def load_file(seed, places):
+    """The schedule file of a test load: ("ok", bytes), or refusal 8.
+
+    Each place has a task of its own, also where two are alike.  The tasks
+    are numbered 1 to places, and the one chain has them in that order.  The
+    gap of 0 is left out, as in every file.
+    """
+    answer = load(seed, places)
+    if answer[0] != "ok":
+        return answer
+    _ok, tasks, gap = answer
+    numbers = list(range(1, places + 1))
+    numbered = [(number, *task) for number, task in zip(numbers, tasks)]
+    written, lent = write_file(places, numbered, 1, [(places, numbers)], gap,
+                               bytes(REPORT_BYTES))
+    if written[0] != "ok":
+        raise AssertionError("a load is refused in writing")
+    return ("ok", lent[:written[1]])
+
+
+# ---------------------------------------------------------------------------
 # Program chainreport
 # ---------------------------------------------------------------------------
 
@@ -1171,6 +1266,60 @@ def report(data):
                 raise AssertionError("a schedule that was read is refused")
             lines += lines_of_chain(chain[1], gap)
     return ("\n".join(lines) + "\n").encode("ascii")
+
+
+# ---------------------------------------------------------------------------
+# Program chainload
+# ---------------------------------------------------------------------------
+
+MOST_DIGITS = 20
+LARGEST_NUMBER = 2 ** 64 - 1
+
+TWO_WORDS = b"chainload: two words are needed: chainload SEED PLACES\n"
+SEED_RULE = (b"chainload: SEED must be a number from 0 to "
+             b"18446744073709551615, in at most 20 decimal digits\n")
+PLACES_RULE = (b"chainload: PLACES must be a number from 1 to 12, "
+               b"in at most 20 decimal digits\n")
+
+
+def number_of_word(word):
+    """The number that a word stands for, or None where it is no number.
+
+    A number is a word of 1 to 20 bytes, each a decimal digit, whose value
+    is below 2^64.  Leading zeros are allowed.  Nothing else is: no sign, no
+    blank, no digit of another script.
+    """
+    if not 1 <= len(word) <= MOST_DIGITS:
+        return None
+    value = 0
+    for byte in word:
+        if not ord("0") <= byte <= ord("9"):
+            return None
+        value = 10 * value + (byte - ord("0"))
+    if value > LARGEST_NUMBER:
+        return None
+    return value
+
+
+def chainload(words):
+    """What chainload puts out: (standard output, standard error).
+
+    The words are bytes objects, without the program's own name.  First
+    their number is judged, then SEED, then PLACES.
+    """
+    if len(words) != 2:
+        return (b"", TWO_WORDS)
+    seed = number_of_word(words[0])
+    if seed is None:
+        return (b"", SEED_RULE)
+    places = number_of_word(words[1])
+    if places is None:
+        return (b"", PLACES_RULE)
+    answer = load_file(seed, places)
+    # The only refusal is 8, of places outside 1 to 12.
+    if answer[0] != "ok":
+        return (b"", PLACES_RULE)
+    return (answer[1], b"")
 
 
 if __name__ == "__main__":

@@ -4141,6 +4141,648 @@ def group_histogram_refusals(rng):
                          "%r width %d" % (faulty, width))
 
 
+# ---------------------------------------------------------------------------
+# A test load, order 8
+# ---------------------------------------------------------------------------
+
+HIGHEST = 2 ** 64 - 1
+
+# The step of a draw in decimal digits; the order has 9E3779B97F4A7C15.
+STEP = 11_400_714_819_323_198_485
+
+# The order's own words.
+PERIODS_IN_WORDS = "0 is 2,500; 1 to 10 is 5,000; 11 to 43 is 10,000; " \
+    "44 to 58 is 20,000; 59 to 81 is 40,000; 82 to 96 is 80,000"
+
+# Source document 003, table III: period in ms and number of tasks.
+TABLE_III = [("2.5", 1), ("5", 10), ("10", 33), ("20", 15), ("33.3", 5),
+             ("40", 23), ("80", 15)]
+
+# The periods of the numbers 0 to 96, by their weights and without a limit.
+WEIGHTED = [int(1_000 * Fraction(ms)) for ms, weight in TABLE_III
+            if ms != "33.3" for _ in range(weight)]
+
+# The first and the last number of each period.
+LIMITS = {0: 2_500, 1: 5_000, 10: 5_000, 11: 10_000, 43: 10_000,
+          44: 20_000, 58: 20_000, 59: 40_000, 81: 40_000, 82: 80_000,
+          96: 80_000}
+
+# Places that are none: around the limits and their look-alikes.
+NOT_PLACES = [0, 13, 14, 24, 97, 255, 256, 257, 268, 65_536, 65_537,
+              2 ** 31, 2 ** 32, 2 ** 32 + 1, 2 ** 32 + 12, 2 ** 63 - 1,
+              2 ** 63, 2 ** 63 + 1, 2 ** 64 - 12, 2 ** 64 - 2, HIGHEST]
+
+
+def bits_of(number):
+    """The 64 bits of a number, the lowest first."""
+    return [number // 2 ** place % 2 for place in range(64)]
+
+
+def number_of_bits(bits):
+    """The number of these bits, the lowest first."""
+    return sum(bit * 2 ** place for place, bit in enumerate(bits))
+
+
+STEP_BITS = [int(bit) for digit in "9E3779B97F4A7C15"[::-1]
+             for bit in format(int(digit, 16), "04b")[::-1]]
+
+
+def draw_by_bits(bits):
+    """One draw, bit by bit: (the state it sets, what it gives)."""
+    after = []
+    carry = 0
+    for one, other in zip(bits, STEP_BITS):
+        after.append((one + other + carry) % 2)
+        carry = (one + other + carry) // 2
+    # The last carry is lost.  Bit 31 moves to bit 0, and zeros follow.
+    moved = after[31:] + 31 * [0]
+    return after, [int(one != other) for one, other in zip(after, moved)]
+
+
+def remainder_of_bits(bits, divisor):
+    """The remainder by long division, from the highest bit on."""
+    rest = 0
+    for bit in reversed(bits):
+        rest = 2 * rest + bit
+        if rest >= divisor:
+            rest -= divisor
+    return rest
+
+
+def load_by_bits(seed, places):
+    """The tasks of a test load, bit by bit."""
+    tasks = []
+    state = bits_of(seed)
+    for _ in range(places):
+        state, given = draw_by_bits(state)
+        T = WEIGHTED[remainder_of_bits(given, 97)]
+        state, given = draw_by_bits(state)
+        tasks.append((T, T, remainder_of_bits(given, T)))
+    return tasks
+
+
+def nth_draw(seed, n):
+    """Draw n, counted from 1, without the draws before it."""
+    state = (seed + n * STEP) & HIGHEST
+    return state ^ state // 2 ** 31
+
+
+def load_by_numbers(seed, places):
+    """The same tasks, each place without those before it."""
+    tasks = []
+    for place in range(places):
+        T = WEIGHTED[nth_draw(seed, 2 * place + 1) % 97]
+        tasks.append((T, T, nth_draw(seed, 2 * place + 2) % T))
+    return tasks
+
+
+def seed_of_state(n, state):
+    """The seed whose draw n, counted from 1, sets this state."""
+    return (state - n * STEP) % 2 ** 64
+
+
+def seed_of_draw(n, number):
+    """The seed whose draw n, counted from 1, gives this number.
+
+    Bits 33 to 63 of the number are the state's.  Each bit below is xored
+    with the state's bit 31 places higher, which is undone from above.
+    """
+    return seed_of_state(n, number ^ number >> 31 ^ number >> 62)
+
+
+def numbers_with_rest(rng, rest, divisor):
+    """Numbers of 64 bits with this remainder: least, greatest, between."""
+    greatest = HIGHEST - (HIGHEST - rest) % divisor
+    most = (greatest - rest) // divisor
+    return [rest, greatest] + [rest + divisor * rng.randint(0, most)
+                               for _ in range(4)]
+
+
+def corner_seeds():
+    """Seeds at the ends, and those with which a state comes to one."""
+    seeds = [0, 1, 2, 3, HIGHEST, HIGHEST - 1, HIGHEST - 2, 10 ** 19,
+             0xDEADBEEF, STEP, STEP - 1, STEP + 1, 2 ** 64 - STEP,
+             2 ** 64 - STEP - 1, 2 ** 64 - STEP + 1]
+    for power in (30, 31, 32, 33, 53, 62, 63):
+        seeds += [2 ** power - 1, 2 ** power, 2 ** power + 1]
+    for n in range(1, 25):
+        seeds += [seed_of_state(n, state) for state in (0, 1, HIGHEST)]
+        seeds += [seed_of_draw(n, number) for number in (1, HIGHEST)]
+    return seeds
+
+
+def seeds_of_loads(rng, count):
+    """Corner seeds and random ones, also small ones."""
+    return corner_seeds() + [rng.randint(0, HIGHEST) >> rng.choice([0, 0, 40])
+                             for _ in range(count)]
+
+
+def group_draws_by_hand(_rng):
+    same("%X" % STEP, "9E3779B97F4A7C15", "the step")
+    same(number_of_bits(STEP_BITS), STEP, "the step's bits")
+    # It is the whole part of 2^64 by the golden ratio, (root of 5 + 1) / 2.
+    same((math.isqrt(5 * 2 ** 128) - 2 ** 64) // 2, STEP, "golden ratio")
+    # Values of the plan.
+    same(["%016X" % number for number in ref.draws(0, 3)],
+         ["9E3779B843248F67", "3C6EF37286491ECF", "DAA66D2DC893AE67"],
+         "seed 0")
+    # The first state of seed 0 is the step, the second is twice the step
+    # less 2^64: 3C6EF372FE94F82A.  Shifted: 13C6EF372 and 78DDE6E5.
+    same(0x9E3779B97F4A7C15 ^ 0x13C6EF372, 0x9E3779B843248F67, "by hand")
+    same(0x3C6EF372FE94F82A ^ 0x78DDE6E5, 0x3C6EF37286491ECF, "by hand")
+    same(ref.draw(0), (0x9E3779B97F4A7C15, 0x9E3779B843248F67), "one draw")
+    same(ref.draw(0x9E3779B97F4A7C15),
+         (0x3C6EF372FE94F82A, 0x3C6EF37286491ECF), "a second draw")
+    # A state, and the number that it gives, by hand.
+    cases = [(0, 0), (1, 1), (2 ** 30, 2 ** 30), (2 ** 31 - 1, 2 ** 31 - 1),
+             (2 ** 31, 2 ** 31 + 1), (2 ** 31 + 1, 2 ** 31),
+             (2 ** 32, 2 ** 32 + 2),
+             (2 ** 32 + 2 ** 31, 2 ** 32 + 2 ** 31 + 3),
+             (2 ** 62, 2 ** 62 + 2 ** 31), (2 ** 62 + 2 ** 31, 2 ** 62 + 1),
+             (2 ** 63, 2 ** 63 + 2 ** 32),
+             (2 ** 63 + 2 ** 32, 2 ** 63 + 2),
+             # 64 ones, of which the lower 33 go.
+             (HIGHEST, 2 ** 64 - 2 ** 33),
+             (HIGHEST - 1, 2 ** 64 - 2 ** 33 + 1)]
+    for state, number in cases:
+        seed = seed_of_state(1, state)
+        same(ref.draw(seed), (state, number), "state %X" % state)
+        same(ref.draws(seed, 1), [number], "state %X" % state)
+        same(nth_draw(seed, 1), number, "state %X by itself" % state)
+        same(seed_of_draw(1, number), seed, "state %X from there" % state)
+        for n in (2, 3, 24):
+            same(ref.draws(seed_of_state(n, state), n)[-1], number,
+                 "state %X at draw %d" % (state, n))
+    # The sum is just below 2^64, then just 2^64.
+    same(ref.draw(0x61C8864680B583EA)[0], HIGHEST, "just below")
+    same(ref.draw(0x61C8864680B583EB), (0, 0), "just 2^64")
+    same(ref.draw(0x61C8864680B583EC), (1, 1), "just above")
+    same(ref.draw(HIGHEST)[0], STEP - 1, "the highest seed")
+
+
+def group_draws(rng):
+    for seed in seeds_of_loads(rng, 60):
+        what = "seed %X" % seed
+        found = ref.draws(seed, 30)
+        state = bits_of(seed)
+        states = [seed]
+        expected = []
+        for _ in range(30):
+            state, given = draw_by_bits(state)
+            states.append(number_of_bits(state))
+            expected.append(number_of_bits(given))
+        same(found, expected, what)
+        same(found, [nth_draw(seed, n) for n in range(1, 31)],
+             what + ", each by itself")
+        for n in (0, 1, 2, 7, 24, 29):
+            same(ref.draws(seed, n), expected[:n], what + ", fewer")
+            same(ref.draws(states[n], 30 - n), expected[n:],
+                 what + ", from a state")
+        for n in range(30):
+            same(ref.draw(states[n]), (states[n + 1], expected[n]),
+                 what + ", one after another")
+            same(seed_of_draw(n + 1, expected[n]), seed,
+                 what + ", back to the seed")
+    # The step is odd, so states do not repeat before 2^64 draws, and each
+    # state gives a number of its own.
+    for _ in range(20):
+        same(len(set(ref.draws(rng.randint(0, HIGHEST), 500))), 500,
+             "draws differ")
+
+
+def group_load_periods(rng):
+    """Which number picks which period, by words, weights and seeds."""
+    words = re.findall(r"(\d+)(?: to (\d+))? is (\d+),(\d+)",
+                       PERIODS_IN_WORDS)
+    same(len(words), 6, "six periods in words")
+    by_words = {}
+    weights = []
+    for first, last, thousands, rest in words:
+        numbers = range(int(first), int(last or first) + 1)
+        weights.append((len(numbers), int(thousands + rest)))
+        for number in numbers:
+            by_words[number] = int(thousands + rest)
+    same(weights, [(1, 2_500), (10, 5_000), (33, 10_000), (15, 20_000),
+                   (23, 40_000), (15, 80_000)], "weights in words")
+    same(sum(weight for weight, _T in weights), 97, "weights come to 97")
+    same(sum(weight for _ms, weight in TABLE_III) - 5, 97,
+         "table III without its 33.3 ms row")
+    same(WEIGHTED, [by_words[number] for number in range(97)],
+         "words and table III")
+    for number in range(97):
+        same(ref.load_period(number), WEIGHTED[number], "number %d" % number)
+    for number, T in LIMITS.items():
+        same(ref.load_period(number), T, "limit %d" % number)
+        same(by_words[number], T, "limit %d in words" % number)
+    # The least seed, from 0 on, with each number as its first.
+    seeds = {}
+    for seed in itertools.count():
+        seeds.setdefault(nth_draw(seed, 1) % 97, seed)
+        if len(seeds) == 97:
+            break
+    for number, seed in seeds.items():
+        T = WEIGHTED[number]
+        same(ref.load(seed, 1),
+             ("ok", [(T, T, nth_draw(seed, 2) % T)], 0),
+             "seed %d for %d" % (seed, number))
+    # Each number at each place, with draws of all sizes.
+    for number in range(97):
+        T = LIMITS.get(number, WEIGHTED[number])
+        places = range(1, 13) if number in LIMITS else (1, 2, 12)
+        for place in places:
+            for one in numbers_with_rest(rng, number, 97):
+                seed = seed_of_draw(2 * place - 1, one)
+                what = "%d at place %d, seed %X" % (number, place, seed)
+                same(ref.draws(seed, 2 * place - 1)[-1], one, what)
+                found = ref.load(seed, place)
+                same((len(found[1]), found[1][-1][:2]), (place, (T, T)),
+                     what)
+                same(found, ("ok", load_by_numbers(seed, place), 0), what)
+
+
+def group_load_phases(rng):
+    """The least and the greatest phases of each period, at each place."""
+    for T in (2_500, 5_000, 10_000, 20_000, 40_000, 80_000):
+        for place in (1, 2, 3, 11, 12):
+            # Phases from T / 2 on tell T from the shorter periods.
+            for phase in (0, 1, T // 2 - 1, T // 2, T - 2, T - 1):
+                # One of so many second draws has T before it.
+                while True:
+                    second = T * rng.randint(0, (HIGHEST - phase) // T) \
+                        + phase
+                    seed = seed_of_draw(2 * place, second)
+                    if WEIGHTED[nth_draw(seed, 2 * place - 1) % 97] == T:
+                        break
+                what = "T %d phase %d at place %d, seed %X" \
+                    % (T, phase, place, seed)
+                found = ref.load(seed, place)
+                same(found[1][-1], (T, T, phase), what)
+                same(found, ("ok", load_by_bits(seed, place), 0), what)
+                same(ref.check_chain(*found[1:])[0], "ok", what)
+
+
+def group_loads_by_hand(_rng):
+    # Seed, places, and (period, phase) of the first ones; of the plan.
+    cases = [
+        (0, 3, [(10_000, 8_591), (10_000, 7_183), (40_000, 26_767)]),
+        (1, 2, [(10_000, 8_590), (20_000, 17_182)]),
+        (0xDEADBEEF, 4, [(10_000, 8_782), (20_000, 46), (80_000, 34_910),
+                         (20_000, 7_822)]),
+        (0x61C8864680B583EB, 1, [(2_500, 307)]),
+        (HIGHEST, 12, [(10_000, 8_588), (10_000, 7_176), (40_000, 26_764),
+                       (40_000, 34_352)])]
+    for seed, places, begin in cases:
+        what = "seed %X, %d places" % (seed, places)
+        found = ref.load(seed, places)
+        same((found[0], found[2], len(found[1])), ("ok", 0, places), what)
+        same(found[1][:len(begin)], [(T, T, F) for T, F in begin], what)
+        same(found[1], load_by_bits(seed, places), what)
+        for fewer in range(1, len(begin) + 1):
+            same(ref.load(seed, fewer),
+                 ("ok", [(T, T, F) for T, F in begin[:fewer]], 0), what)
+    # Seed 0 by hand: its first draw is 26 above a multiple of 97, so the
+    # period is 10,000.  Its second ends in 8591, which is the phase.
+    same(ref.draws(0, 2), [97 * 117_533_142_412_568_173 + 26,
+                           4_354_685_562_918_608_591], "draws of seed 0")
+    highest = ref.load(HIGHEST, 12)
+    same(ref.check_chain(*highest[1:]), ("ok", 40_000), "highest seed, H")
+    same(ref.greatest_latency(*highest[1:]), 426_052, "its greatest latency")
+    for p in range(1, 13):
+        slots = [0] * 16
+        made, starts, latencies = ref.make(*highest[1:], p, slots, slots)
+        same(ref.greatest(starts, latencies, made[1], made[3]),
+             ("ok", 426_052), "cut at %d" % p)
+
+
+def check_load(seed, tasks):
+    """The checks that each chain of a test load passes."""
+    what = "seed %X, %d places" % (seed, len(tasks))
+    H = literal_hyperperiod(tasks)
+    same(ref.check_chain(tasks, 0), ("ok", H), what)
+    same(H, max(T for T, _D, _F in tasks), "longest period, " + what)
+    same(80_000 % H, 0, "80,000, " + what)
+    same(all(T == D and 0 <= F < T for T, D, F in tasks), True, what)
+
+
+def group_loads(rng):
+    met = {}
+    for seed in seeds_of_loads(rng, 300):
+        expected = load_by_bits(seed, 12)
+        same(load_by_numbers(seed, 12), expected, "seed %X" % seed)
+        for places in range(1, 13):
+            found = ref.load(seed, places)
+            same(found, ("ok", expected[:places], 0),
+                 "seed %X, %d places" % (seed, places))
+            same(type(found[1]), list, "a list of tasks")
+            check_load(seed, found[1])
+        for T, _D, _F in expected:
+            met[T] = met.get(T, 0) + 1
+    same(sorted(met), sorted(set(WEIGHTED)), "every period is met")
+    # Random seeds and places, each by itself.
+    for _ in range(2_000):
+        seed = rng.randint(0, HIGHEST)
+        places = rng.randint(1, 12)
+        found = ref.load(seed, places)
+        same(found, ("ok", load_by_numbers(seed, places), 0),
+             "seed %X, %d places" % (seed, places))
+        check_load(seed, found[1])
+    # Many seeds in a row, as clubs would trade them.
+    for seed in range(1_000):
+        same(ref.load(seed, 12), ("ok", load_by_numbers(seed, 12), 0),
+             "seed %d" % seed)
+    # The chain of a seed goes on from a state within it.
+    for _ in range(300):
+        seed = rng.randint(0, HIGHEST)
+        before = rng.randint(1, 11)
+        state = (seed + 2 * before * STEP) % 2 ** 64
+        same(ref.load(seed, 12)[1][before:], ref.load(state, 12 - before)[1],
+             "seed %X from place %d" % (seed, before + 1))
+
+
+def group_load_refusals(rng):
+    refusal = ("refused", 8, 0)
+    for seed in seeds_of_loads(rng, 20):
+        for places in NOT_PLACES + [rng.randint(13, HIGHEST)]:
+            what = "seed %X, %d places" % (seed, places)
+            same(ref.load(seed, places), refusal, what)
+            same(ref.load_file(seed, places), refusal, "file, " + what)
+        for places in (1, 12):
+            same(ref.load(seed, places)[0], "ok", "%d places" % places)
+            same(ref.load_file(seed, places)[0], "ok", "%d places" % places)
+
+
+# Seed 1, 2 places: T and D 10,000 (2710 hexadecimal), F 8,590 (218E); T and
+# D 20,000 (4E20), F 17,182 (431E).
+FILE_OF_SEED_1 = bytes.fromhex(
+    "1200" "0100" "0100" "10270000" "10270000" "8e210000"
+    "1200" "0100" "0200" "204e0000" "204e0000" "1e430000"
+    "0800" "0200" "0100" "0200"
+    "0400" "0300")
+
+# Its place 2 reads at 17,182, before the first write at 18,590, then at
+# 37,182 what was written at 28,590 and read at 18,590.  A press then is read
+# at 28,590, written at 38,590, read at 57,182 and written at 77,182, which is
+# 58,592 later.  20,000 times 58,592 and 38,592 together is 1,943,680,000.
+REPORT_OF_SEED_1 = b"""chain 1
+warm 18590
+hyper 20000
+anchors 1
+a 18590 58592
+max 58592
+low 38592
+mean 1943680000 40000
+walked 1
+"""
+
+
+def group_load_files(rng):
+    same(ref.load_file(1, 2), ("ok", FILE_OF_SEED_1), "seed 1, 2 places")
+    same(ref.report(FILE_OF_SEED_1), REPORT_OF_SEED_1, "its report")
+    # One place: read at 307, then at 2,807, written at 5,307.
+    file = bytes.fromhex("1200" "0100" "0100" "c4090000" "c4090000" "33010000"
+                         "0600" "0200" "0100" "0400" "0300")
+    same(ref.load_file(0x61C8864680B583EB, 1), ("ok", file), "first state 0")
+    same(ref.report(file), b"chain 1\nwarm 307\nhyper 2500\nanchors 1\n"
+         b"a 307 5000\nmax 5000\nlow 2500\nmean 18750000 5000\nwalked 1\n",
+         "its report")
+    for turn, seed in enumerate(seeds_of_loads(rng, 100)):
+        expected = load_by_numbers(seed, 12)
+        for places in range(1, 13):
+            what = "seed %X, %d places" % (seed, places)
+            answer = ref.load_file(seed, places)
+            same((answer[0], type(answer[1])), ("ok", bytes), what)
+            file = answer[1]
+            numbered = [(place, *expected[place - 1])
+                        for place in range(1, places + 1)]
+            chain = list(range(1, places + 1))
+            same(file, file_of(numbered, [chain], 0), what)
+            same(len(file), 18 * places + 4 + 2 * places + 4, what)
+            same(ref.read_file(file), ("ok", numbered, [chain], 0), what)
+            _ok, tasks, chains, gap = ref.read_file(file)
+            same(ref.chain_of_schedule(*schedule(tasks, chains, gap), 1),
+                 ("ok", ref.load(seed, places)[1]), "chain, " + what)
+            # The longest period is the hyperperiod, so the table has one
+            # anchor, and the report is that of one walk.
+            if (turn + places) % 12 == 0:
+                x0 = ref.warm_up(expected[:places], gap)[2]
+                latency = literal_delay(expected[:places], gap, x0)
+                H = max(T for T, _D, _F in expected[:places])
+                lines = ["chain 1", "warm %d" % x0, "hyper %d" % H,
+                         "anchors 1", "a %d %d" % (x0, latency),
+                         "max %d" % latency, "low %d" % (latency - H),
+                         "mean %d %d" % (H * (2 * latency - H), 2 * H),
+                         "walked 1"]
+                same(ref.report(file).decode("ascii").splitlines(), lines,
+                     "report, " + what)
+
+
+TWO_WORDS_LINE = \
+    b"chainload: two words are needed: chainload SEED PLACES\n"
+SEED_LINE = \
+    b"chainload: SEED must be a number from 0 to 18446744073709551615, " \
+    b"in at most 20 decimal digits\n"
+PLACES_LINE = \
+    b"chainload: PLACES must be a number from 1 to 12, in at most 20 " \
+    b"decimal digits\n"
+
+# Words that are no numbers, whatever they stand for.
+NOT_NUMBERS = [
+    b"", b" ", b"  ", b"\n", b"\t", b"\0", b"+", b"-", b".", b"_", b"x",
+    # A sign, also on a number that is written out.
+    b"+1", b"-1", b"+0", b"-0", b"1+", b"1-", b"--1", b"-18446744073709551615",
+    # Blanks before, after and within, and other bytes that print as none.
+    b" 1", b"1 ", b" 1 ", b"1 2", b"\t1", b"1\t", b"\n1", b"1\n", b"1\r",
+    b"1\r\n", b"1\x0b", b"1\x0c", b"\x001", b"1\x00", b"\x001\x00", b"1\x1c",
+    b"1\x1f", b"1\x7f", b"1\xa0", b"\xa01", b"1\xc2\xa0", b"1\xc2\x85",
+    b"\xef\xbb\xbf1", b"1\xe2\x80\x8b",
+    # Points, marks and letters.
+    b"1.", b".1", b"1.0", b"1,0", b"1_0", b"_1", b"1_", b"1__0", b"1'0",
+    b"1e1", b"1E1", b"1e0", b"0x1", b"0X1", b"x1", b"0b1", b"0o1", b"1h",
+    b"1L", b"1u", b"1u64", b"a", b"A", b"f", b"DEADBEEF", b"deadbeef",
+    b"61C8864680B583EB", b"nan", b"inf", b"one", b"None", b"True", b"\\1",
+    b"#1", b"\"1\"", b"'1'", b"(1)", b"1;", b"1/1", b"1:", b"$1", b"--",
+    b"-h", b"--help", b"12345678901234567\xff", b"\xff", b"\x80", b"1\x80",
+    # The bytes beside the digits.
+    b"/", b":", b"0/", b"0:", b"/0", b":0",
+    # Digits of other scripts, which stand for numbers: full width, Arabic,
+    # Devanagari; superscripts two and one, in UTF-8 and in Latin 1; a half.
+    "\uff11".encode(), "\u0661".encode(), "\u0967".encode(),
+    "\u00b2".encode(), "\u00b9".encode(), "1\uff11".encode(), b"\xb2",
+    b"\xb9", b"1\xb9", b"\xbd", "\u2460".encode(), "\u2160".encode(),
+    # The same in UTF-16.
+    b"1\x00", b"\x001", b"\xff\xfe1\x00",
+    # Above 20 digits, whatever the value.
+    b"0" * 21, b"0" * 20 + b"1", b"0" * 19 + b"12", b"0" * 30 + b"7",
+    b"018446744073709551615", b"018446744073709551616", b"1" * 21,
+    b"100000000000000000000", b"0" * 255 + b"1", b"0" * 256 + b"1",
+    b"0" * 4_299 + b"1", b"0" * 5_000 + b"1", b"9" * 5_000, b"0" * 5_000,
+    # 20 or 21 bytes, one of which is no digit.
+    b" " + b"0" * 19 + b"1", b"0" * 19 + b"1 ", b"0" * 19 + b"1\n",
+    b"+" + b"0" * 19 + b"1", b"+" + b"0" * 18 + b"1", b"0" * 18 + b"1\n",
+    b"0" * 10 + b"_" + b"0" * 8 + b"1",
+    # Not below 2^64: above it by 0 to 12 and by more, multiples of it, and
+    # the greatest of 20 digits.
+    b"18446744073709551616", b"18446744073709551617",
+    b"18446744073709551618", b"18446744073709551620",
+    b"18446744073709551626", b"18446744073709551627",
+    b"18446744073709551628", b"18446744073709551700",
+    b"18446744073709552000", b"18446744073709600000",
+    b"18446744074000000000", b"18446745000000000000",
+    b"18447000000000000000", b"19000000000000000000",
+    b"18500000000000000000", b"20000000000000000000",
+    b"27670116110564327424", b"36893488147419103232",
+    b"36893488147419103233", b"55340232221128654849",
+    b"92233720368547758081", b"92233720368547758090",
+    b"99999999999999999999"]
+
+
+def words_put_out(words):
+    """What chainload puts out, with its types looked at."""
+    found = ref.chainload(words)
+    same((type(found), [type(one) for one in found]), (tuple, [bytes, bytes]),
+         "two bytes objects for %r" % (words,))
+    return found
+
+
+def expected_words(words):
+    """The rule of the words once more.
+
+    Which words are digits is had from a pattern, the value from Python.
+    """
+    if len(words) < 2 or len(words) > 2:
+        return (b"", TWO_WORDS_LINE)
+    values = []
+    for word in words:
+        value = None
+        if re.fullmatch(rb"[0123456789]{1,20}", word):
+            value = int(word.decode("ascii"), 10)
+            if value > 18_446_744_073_709_551_615:
+                value = None
+        values.append(value)
+    if values[0] is None:
+        return (b"", SEED_LINE)
+    if values[1] not in range(1, 13):
+        return (b"", PLACES_LINE)
+    seed, places = values
+    return (file_of([(place, *task) for place, task
+                     in enumerate(load_by_numbers(seed, places), start=1)],
+                    [list(range(1, places + 1))], 0), b"")
+
+
+def group_words_by_hand(_rng):
+    # The lines, by their lengths and one LF each.
+    for line, length in ((TWO_WORDS_LINE, 55), (SEED_LINE, 94),
+                         (PLACES_LINE, 78)):
+        same((len(line), line.count(b"\n"), line[-1:]), (length, 1, b"\n"),
+             "the line %r" % line)
+    two_words = (b"", TWO_WORDS_LINE)
+    seed_fault = (b"", SEED_LINE)
+    places_fault = (b"", PLACES_LINE)
+    success = (FILE_OF_SEED_1, b"")
+    same(words_put_out([b"1", b"2"]), success, "seed 1, 2 places")
+    # There must be two words, whatever they are.
+    for words in ([], [b""], [b"1"], [b"1 2"], [b"1", b"2", b""],
+                  [b"1", b"2", b"3"], [b"", b"", b""], [b"x"], [b"-1"],
+                  [b"x", b"y", b"z"], [b"1", b"0", b"2"], [b"x", b"2", b"3"],
+                  [b"1", b"2", b"1", b"2"], [b"chainload", b"1", b"2"],
+                  [b"--", b"1", b"2"], [b"", b"1", b"2"], [b"1", b"", b"2"],
+                  [b"1"] * 12, [b"1"] * 256, [b"1"] * 258):
+        same(words_put_out(words), two_words, "%d words" % len(words))
+    # Leading zeros, up to 20 digits.
+    for seed in range(20):
+        for places in range(20):
+            words = [b"0" * seed + b"1", b"0" * places + b"2"]
+            same(words_put_out(words), success, "%r" % words)
+    # They change neither the value nor its base.
+    for word, places in ((b"08", 8), (b"09", 9), (b"010", 10), (b"011", 11),
+                         (b"012", 12), (b"00012", 12)):
+        same(words_put_out([word, word]),
+             (ref.load_file(places, places)[1], b""), "%r" % word)
+    for word in (b"013", b"014", b"00", b"0" * 20):
+        same(words_put_out([b"1", word]), places_fault, "%r" % word)
+    same(words_put_out([b"0" * 20 + b"1", b"2"]), seed_fault,
+         "21 digits of a seed")
+    same(words_put_out([b"1", b"0" * 20 + b"2"]), places_fault,
+         "21 digits of places")
+    # SEED is judged before PLACES, and neither stands for the other.
+    for word in NOT_NUMBERS:
+        for places in (b"1", b"2", b"12", b"0", b"13", b"", b"x",
+                       b"18446744073709551615", b"18446744073709551616"):
+            same(words_put_out([word, places]), seed_fault,
+                 "%r %r" % (word, places))
+        for seed in (b"0", b"1", b"12", b"13", b"18446744073709551615",
+                     b"0" * 20):
+            same(words_put_out([seed, word]), places_fault,
+                 "%r %r" % (seed, word))
+        same(words_put_out([word, word]), seed_fault, "%r twice" % word)
+    # Numbers that are no places, and the same as seeds.
+    for places in NOT_PLACES:
+        word = b"%d" % places
+        for seed in (b"0", b"1", b"18446744073709551615"):
+            same(words_put_out([seed, word]), places_fault,
+                 "%r places" % word)
+        same(words_put_out([b"x", word]), seed_fault, "%r places" % word)
+        same(words_put_out([b"", word]), seed_fault, "%r places" % word)
+        found = words_put_out([word, b"12"])
+        same((len(found[0]), found[1]), (248, b""), "seed %r" % word)
+        same(found, (ref.load_file(places, 12)[1], b""), "seed %r" % word)
+    # The ends of the seeds, written in several ways.
+    for word in (b"18446744073709551615", b"18446744073709551614",
+                 b"18446744073709551609", b"18446744073709551599",
+                 b"18446744073709551000", b"18446744073700000000",
+                 b"18399999999999999999", b"17999999999999999999",
+                 b"10000000000000000000", b"09999999999999999999",
+                 b"9999999999999999999", b"09223372036854775808",
+                 b"9223372036854775807", b"00000000000000000000", b"0"):
+        for places in (1, 12):
+            same(words_put_out([word, b"%d" % places]),
+                 (ref.load_file(int(word), places)[1], b""),
+                 "seed %r" % word)
+    same(words_put_out([b"18446744073709551616", b"1"]), seed_fault, "2^64")
+    # The words themselves stay, and a tuple of words serves as well.
+    words = [b"1", b"2"]
+    words_put_out(words)
+    same(words, [b"1", b"2"], "words stay")
+    same(words_put_out((b"1", b"2")), success, "a tuple")
+
+
+def group_words(rng):
+    # Every word of one byte and of two, at either place.
+    short = [bytes([one]) for one in range(256)]
+    for word in short + [one + other for one in short for other in short]:
+        for words in ([word, b"3"], [b"7", word]):
+            same(ref.chainload(words), expected_words(words), "%r" % words)
+    # A number with one byte changed, put in or taken out.
+    for _ in range(6_000):
+        words = [b"%0*d" % (rng.choice([1, 1, 19, 20, 21]), value)
+                 for value in (rng.choice([rng.randint(0, HIGHEST),
+                                           rng.randint(0, 10 ** 20 - 1),
+                                           rng.randint(HIGHEST - 9,
+                                                       HIGHEST + 9),
+                                           rng.randint(0, 20)]),
+                               rng.choice([rng.randint(0, 14),
+                                           rng.randint(1, 12),
+                                           rng.randint(0, 2 ** 65)]))]
+        if rng.random() < 0.5:
+            which = rng.randrange(2)
+            word = words[which]
+            at = rng.randrange(len(word))
+            byte = rng.choice([bytes([rng.randrange(256)]), b"", b"0", b"9",
+                               b" ", b"+", b"-", b"_", b"/", b":"])
+            words[which] = word[:at] + byte + word[at + rng.randint(0, 1):]
+        if rng.random() < 0.05:
+            words = rng.choice([words[:1], words + [b"1"], words[1:],
+                                [words[1], words[0]]])
+        same(words_put_out(words), expected_words(words), "%r" % words)
+    # Loads of all kinds by their words, also with leading zeros.
+    for seed in seeds_of_loads(rng, 60):
+        for places in range(1, 13):
+            for form in (b"%d", b"%020d"):
+                words = [form % seed, form % places]
+                same(words_put_out(words), expected_words(words),
+                     "%r" % words)
+
+
 GROUPS = [
     ("survey example A", group_survey_a),
     ("survey examples B to E", group_survey_b_to_e),
@@ -4209,6 +4851,16 @@ GROUPS = [
     ("how often, large values", group_histogram_large),
     ("how often along the walk", group_histogram_of_walks),
     ("refusals of how often", group_histogram_refusals),
+    ("draws of a test load by hand", group_draws_by_hand),
+    ("draws of a test load", group_draws),
+    ("periods of a test load", group_load_periods),
+    ("phases of a test load", group_load_phases),
+    ("test loads by hand", group_loads_by_hand),
+    ("test loads", group_loads),
+    ("refusals of test loads", group_load_refusals),
+    ("files of test loads", group_load_files),
+    ("words of chainload by hand", group_words_by_hand),
+    ("words of chainload", group_words),
 ]
 
 
