@@ -18,11 +18,12 @@
  *   libcapi_maker.a     mo_make_table
  *   libcapi_windows.a   mo_windows
  *   libcapi_sections.a  mo_sections
+ *   libcapi_load.a      mo_load
  *   libcapi_file.a      mo_read_file, mo_write_file, mo_chain_of_schedule
  *   libcapi_bookings.a  mo_bookings
  *   libcapi_report.a    mo_report
  * libcapi_file.a, libcapi_bookings.a and libcapi_report.a need memcpy and memset from the C library, libcapi_maker.a, libcapi_windows.a,
- * libcapi_sections.a and libcapi_histogram.a memset; the other three need nothing (`nm -u` on an archive tells; tests/c/run looks).
+ * libcapi_sections.a, libcapi_histogram.a and libcapi_load.a memset; the other three need nothing (`nm -u` on an archive tells; tests/c/run looks).
  *
  * The archives are for x86-64, in position-independent code that uses its SSE2 registers. The toolchain compiles for no other processor
  * today: the proofs say nothing of a processor, and the back end that turns proved code into machine code has this one target. On an
@@ -69,6 +70,7 @@ extern "C" {
 #define MO_STACK_HISTOGRAM 128u
 #define MO_STACK_WINDOWS 1216u
 #define MO_STACK_SECTIONS 1024u
+#define MO_STACK_LOAD 832u
 #define MO_STACK_READ_FILE 3136u
 #define MO_STACK_WRITE_FILE 5248u
 #define MO_STACK_CHAIN_OF_SCHEDULE 7232u
@@ -292,6 +294,22 @@ uint64_t mo_windows(const uint64_t *tasks, size_t tasks_length, size_t places, u
 uint64_t mo_sections(const uint64_t *tasks, size_t tasks_length, size_t places, uint64_t gap,
                      const uint64_t *cuts, size_t cuts_length,
                      uint64_t latencies[12], uint64_t *count, uint64_t *sum);
+
+/*
+ * A test load that others can repeat: the made-up chain of a seed, any number, and a number of places. tasks becomes T, D, F of each place,
+ * with 0 past them; all 36 entries are written. With the same places and a gap of 0 it is a chain for every call above.
+ *
+ * Each draw sets s, the seed at first, to s + 0x9E3779B97F4A7C15 modulo 2^64 and gives s ^ (s >> 31). At each place, the first draw modulo
+ * 97 picks T: 2,500 for 0, 5,000 for 1 to 10, 10,000 for 11 to 43, 20,000 for 44 to 58, 40,000 for 59 to 81, 80,000 for 82 to 96; D is T,
+ * and the second draw modulo T is F. One s goes through all places, so a chain of fewer places is the front of a longer one.
+ *
+ * Every chain so made passes mo_check, with a hyperperiod that divides 80,000 and is the chain's longest period. That is proved, for every
+ * seed (crates/load, crates/capi_load). So a table of it has one anchor, and lists of one entry hold it.
+ *
+ * Refuses:
+ *   MO_PLACES_OUTSIDE_LIMITS   places is not 1 to 12; at place 0.
+ */
+uint64_t mo_load(uint64_t seed, size_t places, uint64_t tasks[36]);
 
 /* ---- Schedules and their files ----
  *

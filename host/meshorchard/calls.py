@@ -184,6 +184,16 @@ def sections(chain: Chain, cuts: Numbers) -> Sections:
     return Sections(tuple(latencies[:count[0]]), total[0])
 
 
+def load(seed: int, places: int) -> Chain:
+    """The made-up chain of a seed and a number of places."""
+    flat = answers(3 * ROW)
+    code = library.load().mo_load(number(seed), number(places), flat)
+    _sound(code, list(flat), "chain")
+    if places > ROW or any(flat[3 * places:]):
+        raise Broken(f"the chain of {places} places is {list(flat)}")
+    return Chain(flat[:3 * places], places, 0)
+
+
 # ---- Schedules and their files
 
 def read_file(data: Bytes) -> Schedule:

@@ -34,6 +34,7 @@ DECLARED = {
     "mo_make_table": (*CHAIN, SIZE, NUMBERS, SIZE, NUMBERS, SIZE, NUMBERS),
     "mo_windows": (*CHAIN, NUMBER, NUMBER, NUMBERS, NUMBERS),
     "mo_sections": (*CHAIN, NUMBERS, SIZE, NUMBERS, NUMBERS, NUMBERS),
+    "mo_load": (NUMBER, SIZE, NUMBERS),
     "mo_read_file": (BYTES, SIZE, NUMBERS, NUMBERS, NUMBERS, NUMBERS),
     "mo_write_file": (*SCHEDULE, BYTES, SIZE, NUMBERS),
     "mo_chain_of_schedule": (*SCHEDULE, SIZE, NUMBERS, NUMBERS),
