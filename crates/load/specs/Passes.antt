@@ -20,7 +20,7 @@ use Rattle.chain.specs.Chains.{givenOf, placed, tasksOf, at, zeroTask}
 use Rattle.chain.specs.Checks.{firstFault, hyperVerdict, afterGap, verdictFor, verdictOf}
 use Rattle.chain.specs.Hyperperiod.{hyperOf}
 use Rattle.chain.specs.Multiples.{hyper-multiple, hyper-least}
-use Rattle.schedule.specs.Padding.{take-padded}
+use Rattle.schedule.specs.Padding.{take-padded, length-padded}
 use Rattle.load.specs.declared.Load.{Load}
 use Rattle.load.specs.Load as load
 use Rattle.load.specs.Load.{drawOf, periodOf, drawnPeriod, taskOf, tasksFrom, arrayFrom, loaded, noLoad, loadOf}
@@ -35,17 +35,20 @@ pub record Fit (p : ℕ) : Type 0 where
   pub times : ℕ
   pub doubled : p ≡ 2500 * 2 ^ times
 
+-- one of two
+either : {p q : ℕ} (b : Bool) → Fit p → Fit q → Fit (cond b p q)
+either true f g = f
+either false f g = g
+
 pub fit : (x : ℕ) → Fit (periodOf x)
 unfolding periodOf
-fit x = pick (leb x 0) (leb x 10) (leb x 43) (leb x 58) (leb x 81)
-  where
-    pick : (a b c d e : Bool) → Fit (cond a 2500 (cond b 5000 (cond c 10000 (cond d 20000 (cond e 40000 80000)))))
-    pick true b c d e = record { low = omega arith; high = omega arith; divides = refl; times = 0; doubled = refl }
-    pick false true c d e = record { low = omega arith; high = omega arith; divides = refl; times = 1; doubled = refl }
-    pick false false true d e = record { low = omega arith; high = omega arith; divides = refl; times = 2; doubled = refl }
-    pick false false false true e = record { low = omega arith; high = omega arith; divides = refl; times = 3; doubled = refl }
-    pick false false false false true = record { low = omega arith; high = omega arith; divides = refl; times = 4; doubled = refl }
-    pick false false false false false = record { low = omega arith; high = omega arith; divides = refl; times = 5; doubled = refl }
+fit x =
+    either (leb x 0) (record { low = omega arith; high = omega arith; divides = refl; times = 0; doubled = refl })
+    (either (leb x 10) (record { low = omega arith; high = omega arith; divides = refl; times = 1; doubled = refl })
+    (either (leb x 43) (record { low = omega arith; high = omega arith; divides = refl; times = 2; doubled = refl })
+    (either (leb x 58) (record { low = omega arith; high = omega arith; divides = refl; times = 3; doubled = refl })
+    (either (leb x 81) (record { low = omega arith; high = omega arith; divides = refl; times = 4; doubled = refl })
+    (record { low = omega arith; high = omega arith; divides = refl; times = 5; doubled = refl })))))
 
 -- one that is doubled no more often divides the other
 fewer : (p q : ℕ) (f : Fit p) (g : Fit q) → f .times ≤ g .times → p ∣ q
@@ -153,6 +156,10 @@ module _ (seed places : ℕ) (low : 1 ≤ places) (high : places ≤ 12) where
   given =
       ap (λ (m : Load). givenOf (m .chain)) made
       ∙ ap (λ (n : ℕ). take n (arrayFrom seed places)) (sym (tasks-length places seed)) ∙ take-padded zeroTask 12 (tasksFrom seed places) (omega (arith, tasks-length places seed))
+
+  -- Its array has twelve tasks.
+  pub twelve-tasks : length (c .tasks) ≡ 12
+  twelve-tasks = ap (λ (m : Load). length (m .chain .tasks)) made ∙ length-padded zeroTask 12 (tasksFrom seed places) (omega (arith, tasks-length places seed))
 
   at-places : tasksOf c ≡ placed 0 (tasksFrom seed places)
   at-places = ap (λ (m : Load). placed (m .chain .gap) (givenOf c)) made ∙ ap (placed 0) given

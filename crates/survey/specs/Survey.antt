@@ -1,4 +1,4 @@
--- Document 01, "Survey examples": A1 to A8, B, C, D and E, and the examples of orders 2, 5 and 6 of document 02, with what order 7 says of A and B, as one computed list with one conclusion. Every row
+-- Document 01, "Survey examples": A1 to A8, B, C, D and E, and the examples of orders 2, 5 and 6 of document 02, with what order 7 says of A and B and order 8 of some seeds, as one computed list with one conclusion. Every row
 -- is computed from the definitions that the calls' contracts cite; a call's answer is turned into plain numbers: of a refusal its number and its place, of a
 -- success 0 and its values.
 use Prim.Native.Nat.{ℕ, zero, suc, _+_, _-_}
@@ -14,6 +14,7 @@ use Rattle.chain.specs.declared.Chain.{Chain}
 use Rattle.chain.specs.declared.Verdict.{Verdict}
 use Rattle.chain.specs.declared.Verdict.the-variants as verdict
 use Rattle.chain.specs.Chains.{tasksOf, zeroTask, forwardBy, onLatest, backwardBy}
+use Rattle.chain.specs.Flat.{flatOf}
 use Rattle.chain.specs.Hyperperiod.{hyperFrom}
 use Rattle.chain.specs.Checks.{firstFault, hyperVerdict, afterGap, verdictFor, verdictOf}
 use Rattle.timing.specs.declared.WarmUp.{WarmUp}
@@ -55,6 +56,8 @@ use Rattle.schedule.specs.Schedules.{padded}
 use Rattle.latency.specs.Latency.{greatestLatency}
 use Rattle.sections.specs.declared.Sections.{Sections}
 use Rattle.sections.specs.Sections as sections
+use Rattle.load.specs.declared.Load.{Load}
+use Rattle.load.specs.Load as load
 
 -- ---- the chains
 
@@ -166,6 +169,25 @@ sectionsIs (suc n) s = suc n ∷ s .refusal .place ∷ []
 abbrev cut : Chain → List ℕ → List ℕ
 cut c cuts = sectionsIs (sections.sectionsAnswer c cuts .refusal .number) (sections.sectionsAnswer c cuts)
 
+-- The numbers that the first three draws from a seed give.
+abbrev draws : ℕ → List ℕ
+draws s = load.drawOf s .value ∷ load.drawOf (load.drawOf s .state) .value ∷ load.drawOf (load.drawOf (load.drawOf s .state) .state) .value ∷ []
+
+-- The period and the phase of a task.
+abbrev fields : Task → List ℕ
+fields t = t .period ∷ t .phase ∷ []
+
+-- The chain of a seed: number of places, and the period and the phase at each; that the duration is the period is `durations`.
+abbrev loadIs : ℕ → Load → List ℕ
+loadIs zero m = 0 ∷ m .chain .places ∷ flatOf fields (take (m .chain .places) (m .chain .tasks))
+loadIs (suc n) m = suc n ∷ m .refusal .place ∷ m .chain .places ∷ []
+
+abbrev seeded : ℕ → ℕ → List ℕ
+seeded s n = loadIs (load.loadOf s n .refusal .number) (load.loadOf s n)
+
+abbrev durations : ℕ → ℕ → List ℕ
+durations s n = map (λ (t : Task). t .duration) (take n (load.loadOf s n .chain .tasks))
+
 -- ---- the list
 
 unfoldable pub computed : List (List ℕ)
@@ -206,6 +228,10 @@ computed =
     ∷ histogramIs A 2 12 5 4 ∷ histogramIs A 2 12 5 3 ∷ histogramIs A 2 12 5 0 ∷ histogramIs A 2 12 1 20 ∷ histogramIs A 2 12 18446744073709551615 2 ∷ histogramIs A 2 12 0 2 ∷ histogramIs A 2 8 0 2
     -- and B's, which begin at tick 5
     ∷ histogramIs B 1 10 4 4
+    -- order 8 of document 02: draws from seed 0, the periods at the limits of each row, chains of some seeds, of which one has 0 for its first draw and the greatest wraps at once, a chain's hyperperiod, and places outside 1 to 12
+    ∷ draws 0 ∷ map load.periodOf (0 ∷ 1 ∷ 10 ∷ 11 ∷ 43 ∷ 44 ∷ 58 ∷ 59 ∷ 81 ∷ 82 ∷ 96 ∷ [])
+    ∷ seeded 0 3 ∷ durations 0 3 ∷ seeded 0xDEADBEEF 4 ∷ seeded 0x61C8864680B583EB 1 ∷ seeded 18446744073709551615 4
+    ∷ verdictIs (verdictOf (load.loadOf 18446744073709551615 12 .chain)) ∷ seeded 0 0 ∷ seeded 0 13
     -- D
     ∷ warm D ∷ ticksOf (delayOf D 90) ∷ ticksOf (delayOf D 89)
     -- E: no place, 13 places, H at its limit and above
@@ -213,7 +239,7 @@ computed =
     ∷ verdictIs (verdictOf (E 768)) ∷ verdictIs (verdictOf (E 769))
     ∷ []
 
--- What the documents say, in the same order; the warm-ups of chain C with a gap follow from order 5, chain A with gap 7 from orders 5 and 6, and the histograms of A and B from order 7, which do not name them.
+-- What the documents say, in the same order; the warm-ups of chain C with a gap follow from order 5, chain A with gap 7 from orders 5 and 6, the histograms of A and B from order 7 and the chains of seeds from order 8, which do not name them.
 abbrev pub said : List (List ℕ)
 said =
     (0 ∷ 12 ∷ 0 ∷ 0 ∷ 1 ∷ [])
@@ -238,11 +264,15 @@ said =
     ∷ (0 ∷ 0 ∷ 0 ∷ 0 ∷ 6 ∷ 6 ∷ []) ∷ (0 ∷ 6 ∷ 0 ∷ 0 ∷ 6 ∷ []) ∷ (0 ∷ 12 ∷ []) ∷ (0 ∷ 0 ∷ 0 ∷ 0 ∷ 0 ∷ 0 ∷ 0 ∷ 0 ∷ 0 ∷ 0 ∷ 0 ∷ 0 ∷ 0 ∷ 1 ∷ 1 ∷ 2 ∷ 2 ∷ 2 ∷ 2 ∷ 1 ∷ 1 ∷ 0 ∷ [])
     ∷ (0 ∷ 0 ∷ 12 ∷ 0 ∷ []) ∷ (18 ∷ 0 ∷ 7 ∷ 7 ∷ []) ∷ (14 ∷ 0 ∷ 7 ∷ 7 ∷ [])
     ∷ (0 ∷ 0 ∷ 0 ∷ 4 ∷ 4 ∷ 2 ∷ [])
+    ∷ (0x9E3779B843248F67 ∷ 0x3C6EF37286491ECF ∷ 0xDAA66D2DC893AE67 ∷ []) ∷ (2500 ∷ 5000 ∷ 5000 ∷ 10000 ∷ 10000 ∷ 20000 ∷ 20000 ∷ 40000 ∷ 40000 ∷ 80000 ∷ 80000 ∷ [])
+    ∷ (0 ∷ 3 ∷ 10000 ∷ 8591 ∷ 10000 ∷ 7183 ∷ 40000 ∷ 26767 ∷ []) ∷ (10000 ∷ 10000 ∷ 40000 ∷ []) ∷ (0 ∷ 4 ∷ 10000 ∷ 8782 ∷ 20000 ∷ 46 ∷ 80000 ∷ 34910 ∷ 20000 ∷ 7822 ∷ [])
+    ∷ (0 ∷ 1 ∷ 2500 ∷ 307 ∷ []) ∷ (0 ∷ 4 ∷ 10000 ∷ 8588 ∷ 10000 ∷ 7176 ∷ 40000 ∷ 26764 ∷ 40000 ∷ 34352 ∷ [])
+    ∷ (0 ∷ 40000 ∷ []) ∷ (8 ∷ 0 ∷ 0 ∷ []) ∷ (8 ∷ 0 ∷ 0 ∷ [])
     ∷ (0 ∷ 10 ∷ 90 ∷ 9 ∷ 0 ∷ []) ∷ (0 ∷ 16 ∷ []) ∷ (12 ∷ 0 ∷ [])
     ∷ (8 ∷ 0 ∷ []) ∷ (8 ∷ 0 ∷ [])
     ∷ (0 ∷ 60000000 ∷ []) ∷ (7 ∷ 0 ∷ [])
     ∷ []
 
 pub survey : computed ≡ said
-unfolding computed withinLimits earliestFrom latestOver forwardLink backwardLink euclid gcdOf lcmOf forwardBy onLatest backwardBy hyperFrom firstFault hyperVerdict afterGap verdictFor leastFrom warmLast warmAt warmTick delayAt firstAged ageAt entries warmUpAfter spanAfter anchors spaced wellFormed read.reading read.delayAt read.lastAt greatest lowTo low total everyAbove longestRun ticks delaySum doubledArea exceedance greatestOf lowOf meanOf exceedanceOf rangeFrom keep fresh dropRepeats startOf endOf keeps anchorsFrom judged madeAfter writtenAfter spanOf misses missesIn largest mostMisses earliestJob windowsAfter padded sections.partsFrom sections.risesTo sum sections.sectionsAfter greatestLatency histogramOf countsOf
+unfolding computed withinLimits earliestFrom latestOver forwardLink backwardLink euclid gcdOf lcmOf forwardBy onLatest backwardBy hyperFrom firstFault hyperVerdict afterGap verdictFor leastFrom warmLast warmAt warmTick delayAt firstAged ageAt entries warmUpAfter spanAfter anchors spaced wellFormed read.reading read.delayAt read.lastAt greatest lowTo low total everyAbove longestRun ticks delaySum doubledArea exceedance greatestOf lowOf meanOf exceedanceOf rangeFrom keep fresh dropRepeats startOf endOf keeps anchorsFrom judged madeAfter writtenAfter spanOf misses missesIn largest mostMisses earliestJob windowsAfter padded sections.partsFrom sections.risesTo sum sections.sectionsAfter greatestLatency histogramOf countsOf load.drawOf load.periodOf load.placeOf load.tasksFrom load.loadOf flatOf
 survey = refl
