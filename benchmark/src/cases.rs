@@ -3,6 +3,7 @@ use crate::programs::{Chain, Program, Schedule, Table, REFUSED};
 use plain::bookings::check_pair;
 use plain::chain::{check, forward};
 use plain::latency::longest_place;
+use plain::load::make_load;
 use plain::maker::{make_table, Made};
 use plain::schedule::NumberedTask;
 use plain::task::Task;
@@ -29,6 +30,7 @@ pub enum Call {
     Windows { chain: Chain, b: u64, k: u64 },
     Sections { chain: Chain, cuts: Vec<u64> },
     Bookings { schedule: Schedule, ticks: Vec<u64> },
+    Load { seed: u64, places: usize },
 }
 
 pub struct Case {
@@ -87,10 +89,20 @@ fn named(kind: &str, chain: &Chain) -> String {
     format!("{kind}, {} places{}, H {}", chain.tasks.len(), gap_text(chain.gap), hyperperiod(chain))
 }
 
-fn making(kind: &str, periods: &[u64], gap: u64) -> Case {
-    let chain = chain_of(periods, gap);
-    let (p, h, n) = (longest_place(&chain.tasks) + 1, hyperperiod(&chain), periods.len() as u64);
-    let walked = h / periods[p - 1];
+/// The chain of a seed and a number of places, as clubs trade it.
+fn loaded(seed: u64, places: usize) -> Chain {
+    chain_with(make_load(seed, places).expect("places inside their limits").collect(), 0)
+}
+
+/// Cut at the longest period.
+fn making(kind: &str, chain: Chain) -> Case {
+    let p = longest_place(&chain.tasks) + 1;
+    making_at(p, kind, chain)
+}
+
+fn making_at(p: usize, kind: &str, chain: Chain) -> Case {
+    let (h, n) = (hyperperiod(&chain), chain.tasks.len() as u64);
+    let walked = h / chain.tasks[p - 1].period;
     Case {
         group: "making",
         name: format!("{}, walked {walked}", named(kind, &chain)),
@@ -144,10 +156,9 @@ fn counting(g: usize, h: u64, entries: usize) -> Case {
     }
 }
 
-fn walking(group: &'static str, kind: &str, periods: &[u64], gap: u64) -> Case {
-    let chain = chain_of(periods, gap);
-    let n = periods.len();
-    let jobs = warm_jobs(&chain.tasks, gap);
+fn walking(group: &'static str, kind: &str, chain: Chain) -> Case {
+    let n = chain.tasks.len();
+    let jobs = warm_jobs(&chain.tasks, chain.gap);
     let from = if group == "delay" { chain.tasks[0].read(jobs[0]) } else { chain.tasks[n - 1].write(jobs[n - 1]) };
     let mut draws = Draws(n as u64);
     let ticks = (0..TICKS).map(|_| from + draws.below(LATEST)).collect();
@@ -184,13 +195,12 @@ fn late() -> Chain {
 }
 
 /// Durations and phases are those of the whole chain.
-fn sections(kind: &str, periods: &[u64], gap: u64, cuts: &[u64]) -> Case {
-    let chain = chain_of(periods, gap);
-    let ends = cuts.iter().map(|&cut| cut as usize).chain([periods.len()]);
+fn sections(kind: &str, chain: Chain, cuts: &[u64]) -> Case {
+    let ends = cuts.iter().map(|&cut| cut as usize).chain([chain.tasks.len()]);
     let (mut from, mut walked, mut links, mut steps) = (0, 0, 0, 0);
     for to in ends {
         let (section, n) = (&chain.tasks[from..to], (to - from) as u64);
-        let h = check(section, gap).expect("a section that is accepted");
+        let h = check(section, chain.gap).expect("a section that is accepted");
         let partitions = h / section[longest_place(section)].period;
         walked += partitions;
         links += partitions * n;
@@ -247,6 +257,17 @@ fn bookings(kind: &str, periods: [&[u64]; 2], gap: u64) -> Case {
     }
 }
 
+fn loading(seed: u64, places: usize) -> Case {
+    Case {
+        group: "load",
+        name: format!("from seed {seed} on, {places} {}", if places == 1 { "place" } else { "places" }),
+        call: Call::Load { seed, places },
+        // There is nothing to enumerate.
+        enumerating: u64::MAX,
+        work: places as u64,
+    }
+}
+
 pub fn all() -> Vec<Case> {
     let doubling = |first: u64, n: u32| (0..n).map(|i| first << i).collect::<Vec<u64>>();
     // Periods without a common divisor, with hyperperiods up to the limit of 60,000,000.
@@ -267,22 +288,27 @@ pub fn all() -> Vec<Case> {
     // Wat19-C1 and Wat19-C3 of docs/CASE-STUDIES.md.
     let published = [33_000, 400_000, 15_000, 15_000, 5_000];
     let beside = [10_000, 15_000, 15_000, 5_000];
-    let mut cases: Vec<Case> = [2, 4, 8, 12].iter().map(|&n| making("harmonic", &doubling(250, n), 0)).collect();
-    cases.push(making("published", &published, 0));
-    cases.extend(coprime.iter().map(|periods| making("co-prime", periods, 0)));
-    cases.extend(apart.iter().map(|periods| making("far apart", periods, 0)));
-    cases.push(making("published", &published, GAP_LIMIT));
-    cases.push(making("co-prime", coprime[4], 37));
+    // Seed and places of the loads. That of 42 begins with the shortest period, and all but one have the longest.
+    let loads = [(42, 4), (7, 12), (42, 12), (2026, 12)];
+    let mut cases: Vec<Case> = [2, 4, 8, 12].iter().map(|&n| making("harmonic", chain_of(&doubling(250, n), 0))).collect();
+    cases.push(making("published", chain_of(&published, 0)));
+    cases.extend(coprime.iter().map(|periods| making("co-prime", chain_of(periods, 0))));
+    cases.extend(apart.iter().map(|periods| making("far apart", chain_of(periods, 0))));
+    cases.push(making("published", chain_of(&published, GAP_LIMIT)));
+    cases.push(making("co-prime", chain_of(coprime[4], 37)));
+    cases.extend(loads.iter().map(|&(seed, places)| making(&format!("load {seed}"), loaded(seed, places))));
+    cases.push(making_at(1, "load 42 cut at 1", loaded(42, 12)));
     cases.extend([1, 4, 16, 64, 256, 1024].iter().map(|&g| reading(g)));
     for (g, entries) in [(1, 1), (1, 64), (16, 4), (16, 64), (16, 4096), (256, 64), (1024, 1), (1024, 4), (1024, 16), (1024, 64), (1024, 512), (1024, 4096)] {
         cases.push(counting(g, 122_880, entries));
     }
     cases.push(counting(1024, 60_000_000, 4096));
     for group in ["delay", "age"] {
-        cases.extend([2, 4, 8, 12].iter().map(|&n| walking(group, "harmonic", &doubling(250, n), 0)));
-        cases.push(walking(group, "published", &published, 0));
-        cases.extend([0, 4, 8, 9].iter().map(|&i| walking(group, "co-prime", coprime[i], 0)));
-        cases.push(walking(group, "co-prime", coprime[4], 37));
+        cases.extend([2, 4, 8, 12].iter().map(|&n| walking(group, "harmonic", chain_of(&doubling(250, n), 0))));
+        cases.push(walking(group, "published", chain_of(&published, 0)));
+        cases.extend([0, 4, 8, 9].iter().map(|&i| walking(group, "co-prime", chain_of(coprime[i], 0))));
+        cases.push(walking(group, "co-prime", chain_of(coprime[4], 37)));
+        cases.extend(loads.iter().map(|&(seed, places)| walking(group, &format!("load {seed}"), loaded(seed, places))));
     }
     cases.extend([1, 10, 100].iter().map(|&k| windows("late", late(), k)));
     cases.extend([1, 10, 100].iter().map(|&k| windows("published", chain_of(&published, 0), k)));
@@ -290,18 +316,20 @@ pub fn all() -> Vec<Case> {
     cases.extend([0, 4, 6, 3, 7, 9].iter().map(|&i| windows("co-prime", chain_of(coprime[i], 0), 10)));
     cases.push(windows("co-prime", chain_of(coprime[3], 0), 100));
     cases.push(windows("co-prime", chain_of(coprime[4], 37), 10));
+    cases.extend([7, 42].iter().map(|&seed| windows(&format!("load {seed}"), loaded(seed, 12), 10)));
     for cuts in [vec![], vec![6], (1..12).collect()] {
-        cases.push(sections("harmonic", &doubling(250, 12), 0, &cuts));
+        cases.push(sections("harmonic", chain_of(&doubling(250, 12), 0), &cuts));
     }
     for cuts in [vec![], vec![2]] {
-        cases.push(sections("published", &published, 0, &cuts));
-        cases.push(sections("co-prime", coprime[4], 0, &cuts));
+        cases.push(sections("published", chain_of(&published, 0), &cuts));
+        cases.push(sections("co-prime", chain_of(coprime[4], 0), &cuts));
     }
-    cases.push(sections("co-prime", coprime[1], 0, &[]));
+    cases.push(sections("co-prime", chain_of(coprime[1], 0), &[]));
     for cuts in [vec![], vec![6], vec![4, 8]] {
-        cases.push(sections("co-prime", coprime[9], 0, &cuts));
+        cases.push(sections("co-prime", chain_of(coprime[9], 0), &cuts));
     }
-    cases.push(sections("published", &published, GAP_LIMIT, &[2]));
+    cases.push(sections("published", chain_of(&published, GAP_LIMIT), &[2]));
+    cases.push(sections("load 42", loaded(42, 12), &[6]));
     cases.push(bookings("harmonic", [&[250], &[500]], 0));
     cases.push(bookings("harmonic", [&doubling(250, 4), &doubling(4000, 4)], 0));
     cases.push(bookings("harmonic", [&doubling(250, 12), &doubling(250, 12)], 0));
@@ -312,6 +340,7 @@ pub fn all() -> Vec<Case> {
     cases.push(bookings("co-prime", [&[4, 5, 7, 9], &[11, 13, 17, 19]], 0));
     cases.push(bookings("co-prime", [&[1], &[768, 78_125]], 0));
     cases.push(bookings("co-prime", [&[7, 9], &[10, 11]], 37));
+    cases.extend([1, 4, 12].iter().map(|&places| loading(42, places)));
     cases
 }
 
@@ -391,6 +420,18 @@ fn repeat_bookings<P: Program>(schedule: &Schedule, ticks: &[u64], repeats: usiz
     digest
 }
 
+/// Each seed is the one after.
+#[inline(never)]
+fn repeat_load<P: Program>(seed: u64, places: usize, repeats: usize) -> u64 {
+    let mut digest = 0;
+    for i in 0..repeats {
+        let mut out = [0; 36];
+        let code = P::load(black_box(seed).wrapping_add(i as u64), black_box(places), &mut out);
+        digest = out.iter().fold(mix(digest, code), |digest, &number| mix(digest, number));
+    }
+    digest
+}
+
 /// Makes the call `repeats` times; a digest of what it answered.
 pub fn repeat<P: Program>(case: &Case, lists: &mut Lists, repeats: usize) -> u64 {
     let mut digest = 0;
@@ -419,6 +460,7 @@ pub fn repeat<P: Program>(case: &Case, lists: &mut Lists, repeats: usize) -> u64
         Call::Windows { chain, b, k } => digest = repeat_windows::<P>(chain, *b, *k, repeats),
         Call::Sections { chain, cuts } => digest = repeat_sections::<P>(chain, cuts, repeats),
         Call::Bookings { schedule, ticks } => digest = repeat_bookings::<P>(schedule, ticks, repeats),
+        Call::Load { seed, places } => digest = repeat_load::<P>(*seed, *places, repeats),
     }
     digest
 }
@@ -474,6 +516,13 @@ pub fn answers<P: Program>(case: &Case) -> Vec<u64> {
                 all.extend(out);
             }
         }
+        Call::Load { seed, places } => {
+            for i in 0..TICKS as u64 {
+                let mut out = [RUBBISH; 36];
+                all.push(P::load(seed.wrapping_add(i), *places, &mut out));
+                all.extend(out);
+            }
+        }
     }
     all
 }
@@ -492,5 +541,6 @@ pub fn refuses(case: &Case, answers: &[u64]) -> bool {
         Call::Read { .. } => answers.iter().any(|&answer| REFUSED <= answer),
         Call::Delay { .. } | Call::Age { .. } => answers.chunks(2).any(|pair| pair[0] != 0),
         Call::Bookings { .. } => answers.chunks(5).any(|five| five[0] != 0),
+        Call::Load { .. } => answers.chunks(37).any(|all| all[0] != 0),
     }
 }

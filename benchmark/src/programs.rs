@@ -42,6 +42,10 @@ pub trait Program {
     fn sections(chain: &Chain, cuts: &[u64], out: &mut [u64; 14]) -> u64;
     /// Of the schedule's chains 1 and 2.
     fn bookings(schedule: &Schedule, t: u64, out: &mut [u64; 4]) -> u64;
+    /// T, D, F of each place of a made-up chain. There is one way to make it, so the proved program alone has another than the plain one's.
+    fn load(seed: u64, places: usize, out: &mut [u64; 36]) -> u64 {
+        give_load(plain::load::make_load(seed, places), out)
+    }
 }
 
 fn give_table(made: Made, figures: &mut [u64; 4]) -> u64 {
@@ -88,6 +92,19 @@ fn give_sections(answer: Result<Sections, Refusal>, out: &mut [u64; 14]) -> u64 
     }
 }
 
+fn give_load(answer: Result<impl Iterator<Item = Task>, Refusal>, out: &mut [u64; 36]) -> u64 {
+    *out = [0; 36];
+    match answer {
+        Ok(tasks) => {
+            for (fields, task) in out.chunks_mut(3).zip(tasks) {
+                fields.copy_from_slice(&[task.period, task.duration, task.phase]);
+            }
+            0
+        }
+        Err(r) => r.code(),
+    }
+}
+
 fn give_bookings(answer: Result<Bookings, Refusal>, out: &mut [u64; 4]) -> u64 {
     give(answer.map(|b| [b.later, b.earlier, b.difference, b.greatest]), out)
 }
@@ -110,6 +127,7 @@ mod c {
         pub fn mo_sections(
             tasks: *const u64, length: usize, places: usize, gap: u64, cuts: *const u64, cuts_length: usize, latencies: *mut u64, count: *mut u64, sum: *mut u64,
         ) -> u64;
+        pub fn mo_load(seed: u64, places: usize, tasks: *mut u64) -> u64;
         pub fn mo_bookings(
             tasks: *const u64, tasks_length: usize, count: usize, chains: *const u64, chains_length: usize, places: *const u64, places_length: usize,
             chain_count: usize, gap: u64, first: usize, second: usize, t: u64, figures: *mut u64,
@@ -157,6 +175,10 @@ impl Program for Proved {
         let (tasks, chains, places) = (&schedule.tasks, &schedule.chains, &schedule.places);
         let (count, gap) = (tasks.len() / 4, schedule.plain.gap);
         unsafe { c::mo_bookings(tasks.as_ptr(), tasks.len(), count, chains.as_ptr(), chains.len(), places.as_ptr(), places.len(), places.len(), gap, 1, 2, t, out.as_mut_ptr()) }
+    }
+
+    fn load(seed: u64, places: usize, out: &mut [u64; 36]) -> u64 {
+        unsafe { c::mo_load(seed, places, out.as_mut_ptr()) }
     }
 }
 

@@ -6,6 +6,7 @@ pub mod chain;
 pub mod division;
 pub mod histogram;
 pub mod latency;
+pub mod load;
 pub mod maker;
 pub mod outset;
 pub mod schedule;
