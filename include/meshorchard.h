@@ -32,7 +32,7 @@
  *
  * Time. mo_read_table and the figures take one to three passes over the g anchors; mo_histogram two over the anchors, with two divisions for
  * each of them, and two over its list, however wide the entries are and however long h is; mo_check, mo_warm_up, mo_delay and mo_age a few
- * over the places; the calls on files one over the bytes.
+ * over the places, and so does mo_load, with two divisions at each; the calls on files one over the bytes.
  * mo_make_table walks h / T partitions, T being the period at the place of the cut, and a partition costs each place once: with h 60,000,000
  * and twelve places 0.015 ms where the longest period, 78,125, is cut at, and 0.9 s at a place of period 1. Cut at the longest period no
  * chain has more than 3,063,060 partitions, which take 0.05 s at twelve places. The call divides only before the second partition, some 90
@@ -70,7 +70,7 @@ extern "C" {
 #define MO_STACK_HISTOGRAM 128u
 #define MO_STACK_WINDOWS 1216u
 #define MO_STACK_SECTIONS 1024u
-#define MO_STACK_LOAD 832u
+#define MO_STACK_LOAD 448u
 #define MO_STACK_READ_FILE 3136u
 #define MO_STACK_WRITE_FILE 5248u
 #define MO_STACK_CHAIN_OF_SCHEDULE 7232u
@@ -213,7 +213,7 @@ uint64_t mo_histogram(const uint64_t *starts, size_t starts_length,
  * a value is readable from the tick of its write on. The last write, the booking, has none. A chain of one place has no link: its gap is
  * tested all the same and changes nothing.
  *
- * Each call refuses, the first that applies:
+ * Each call on a chain refuses, the first that applies:
  *   MO_PLACES_OUTSIDE_LIMITS   places is not 1 to 12, tasks_length is no multiple of 3, or it is below 3 * places;
  *   MO_TASK_OUTSIDE_LIMITS     T is not 1 to 1,000,000, D not 1 to 4,000,000 or F above 1,000,000; at the lowest such place, from 1;
  *   MO_TASK_OUTSIDE_LIMITS     gap is above 1,000; at place 0;
@@ -297,14 +297,15 @@ uint64_t mo_sections(const uint64_t *tasks, size_t tasks_length, size_t places, 
 
 /*
  * A test load that others can repeat: the made-up chain of a seed, any number, and a number of places. tasks becomes T, D, F of each place,
- * with 0 past them; all 36 entries are written. With the same places and a gap of 0 it is a chain for every call above.
+ * with 0 past them; all 36 entries are written. With a tasks_length of 36, the same places and a gap of 0 it is a chain for every call on a
+ * chain.
  *
  * Each draw sets s, the seed at first, to s + 0x9E3779B97F4A7C15 modulo 2^64 and gives s ^ (s >> 31). At each place, the first draw modulo
  * 97 picks T: 2,500 for 0, 5,000 for 1 to 10, 10,000 for 11 to 43, 20,000 for 44 to 58, 40,000 for 59 to 81, 80,000 for 82 to 96; D is T,
  * and the second draw modulo T is F. One s goes through all places, so a chain of fewer places is the front of a longer one.
  *
- * Every chain so made passes mo_check, with a hyperperiod that divides 80,000 and is the chain's longest period. That is proved, for every
- * seed (crates/load, crates/capi_load). So a table of it has one anchor, and lists of one entry hold it.
+ * Every chain so made passes mo_check, with a hyperperiod that divides 80,000 and is the chain's longest period; so a table of it has one
+ * anchor, and lists of one entry hold it. That is proved, for every seed (crates/load, crates/capi_load, crates/load_report).
  *
  * Refuses:
  *   MO_PLACES_OUTSIDE_LIMITS   places is not 1 to 12; at place 0.

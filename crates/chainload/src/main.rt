@@ -3,8 +3,8 @@
 //
 // Words that it does not take are told by one line on standard error, and nothing is written to standard output. The status is 0 all the same, since the toolchain gives a program no other;
 // ./load gives one. A write that fails is told on standard error, with the system's reason.
-// What is put out for the words is proved (`load_file::answer_to`), also that it fits its bytes. A word of more than 20 bytes comes as an empty one, which is no number.
-// Not proved, since no contract can say it: that the system gives the words of the command line, and that its write puts these bytes out.
+// Which bytes answer the words, and whether they are the file or a line, is proved (`load_file::answer_to`), also that they fit. A word of more than 20 bytes comes as an empty one; neither is a number.
+// Not proved, since no contract can say it: that these are the words of the command line, and that a file goes to standard output and a line to standard error. tests/load.py looks at that.
 use libc::STDERR_FILENO;
 use libc::STDOUT_FILENO;
 

@@ -12,15 +12,23 @@ use borrow.Author.Tests.{le-leb, lt-leb, lt-ltb, le-ltb}
 use Rattle.text.specs.Decimal.{spells}
 use Rattle.decimal.specs.declared.Number.{Number}
 use Rattle.decimal.specs.declared.Number.the-variants.{Of, Wrong}
-use Rattle.decimal.specs.Numbers.{allDigits, numberFrom, numberOf}
+use Rattle.decimal.specs.Numbers.{allDigits, numberOf}
+
+-- The number of digits that come after those of n.
+unfoldable pub numberFrom : ℕ → List ℕ → Number
+numberFrom n l = cond (allDigits l) (cond (ltb (spells n l) (2 ^ 64)) (Of (spells n l)) Wrong) Wrong
 
 pub no-byte : (l : List ℕ) → length l ≡ 0 → Wrong ≡ numberOf l
-no-byte [] h = refl
-no-byte (b ∷ l) h = absurd (omega arith)
+unfolding numberOf
+no-byte l h = rw (lt-leb 1 (length l) (omega arith))
 
-pub from-first : (l : List ℕ) → (length l ≡ 0 → ⊥) → numberOf l ≡ numberFrom 0 (drop 0 l)
-from-first [] h = absurd (h refl)
-from-first (b ∷ l) h = refl
+pub too-long : (l : List ℕ) → 1 ≤ length l → 20 < length l → Wrong ≡ numberOf l
+unfolding numberOf
+too-long l g h = rw (le-leb 1 (length l) g, lt-leb (length l) 20 h)
+
+pub from-first : (l : List ℕ) → 1 ≤ length l → length l ≤ 20 → numberOf l ≡ numberFrom 0 (drop 0 l)
+unfolding numberOf numberFrom
+from-first l g h = rw (le-leb 1 (length l) g, le-leb (length l) 20 h)
 
 -- ---- what a first byte does
 

@@ -1,8 +1,9 @@
--- A word of one or more decimal digits whose number is below 2^64. Leading zeros are allowed; a sign, a blank or any other byte is not.
+-- A word of 1 to 20 decimal digits whose number is below 2^64. Leading zeros are allowed; a sign, a blank or any other byte is not. No number of 64 bits has more than 20 digits.
 use Prim.Native.Nat.{ℕ, _^_}
 use mathlib.Core.Bool.{Bool, true, false, cond, _&&_}
 use mathlib.Core.List.{List, [], _∷_}
 use lib.Dec.{leb, ltb}
+use lib.ListN.{length}
 use Rattle.text.specs.Decimal.{spells}
 use Rattle.decimal.specs.declared.Number.{Number}
 use Rattle.decimal.specs.declared.Number.the-variants.{Of, Wrong}
@@ -15,10 +16,5 @@ unfoldable pub allDigits : List ℕ → Bool
 allDigits [] = true
 allDigits (b ∷ l) = cond (isDigit b) (allDigits l) false
 
--- The number of digits that come after those of n.
-unfoldable pub numberFrom : ℕ → List ℕ → Number
-numberFrom n l = cond (allDigits l) (cond (ltb (spells n l) (2 ^ 64)) (Of (spells n l)) Wrong) Wrong
-
-abbrev pub numberOf : List ℕ → Number
-numberOf [] = Wrong
-numberOf (b ∷ l) = numberFrom 0 (b ∷ l)
+unfoldable pub numberOf : List ℕ → Number
+numberOf word = cond (leb 1 (length word) && leb (length word) 20) (cond (allDigits word) (cond (ltb (spells 0 word) (2 ^ 64)) (Of (spells 0 word)) Wrong) Wrong) Wrong

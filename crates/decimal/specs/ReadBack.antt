@@ -2,15 +2,15 @@
 use Prim.Native.Nat.{ℕ, suc, _/_, _%_, _^_, _≤_, _<_}
 use native.Mathlib.Omega.{arith}
 use native.Mathlib.Decide.{decLt}
-use mathlib.Core.Path.{_≡_, refl, sym, ap, _∙_}
-use mathlib.Core.Bool.{Bool, true}
+use mathlib.Core.Path.{_≡_, refl}
+use mathlib.Core.Bool.{true}
 use mathlib.Core.List.{List, [], _∷_}
 use lib.ListN.{length, getD, length-append}
 use borrow.Author.Tests.{le-leb, lt-ltb}
 use Rattle.text.specs.Text.{digit, decimal}
-use Rattle.text.specs.Decimal.{spells, IsDigit, decimal-one, decimal-more, decimal-reads, decimal-digits}
+use Rattle.text.specs.Decimal.{IsDigit, decimal-one, decimal-more, decimal-reads, decimal-digits, decimal-20}
 use Rattle.decimal.specs.declared.Number.the-variants.{Of}
-use Rattle.decimal.specs.Numbers.{allDigits, numberFrom, numberOf}
+use Rattle.decimal.specs.Numbers.{allDigits, numberOf}
 
 digits-all : (l : List ℕ) → ((i : ℕ) → i < length l → IsDigit (getD l i 0)) → allDigits l ≡ true
 unfolding allDigits
@@ -23,13 +23,7 @@ some-digit n = elim (decLt n 10) [
   | no h ↦ rw (decimal-more n (omega arith)) (omega (arith, length-append (decimal (n / 10)) (digit (n % 10) ∷ [])))
 ]
 
--- a word with a digit is read from its first on
-from-first : (l : List ℕ) → 1 ≤ length l → numberOf l ≡ numberFrom 0 l
-from-first [] h = absurd (omega arith)
-from-first (b ∷ l) h = refl
-
 pub decimal-number : (n : ℕ) → n < 2 ^ 64 → numberOf (decimal n) ≡ Of n
-unfolding numberFrom
+unfolding numberOf
 decimal-number n h =
-    from-first (decimal n) (some-digit n)
-    ∙ rw (digits-all (decimal n) (decimal-digits n), decimal-reads n, lt-ltb n (2 ^ 64) h)
+    rw (le-leb 1 (length (decimal n)) (some-digit n), le-leb (length (decimal n)) 20 (decimal-20 n h), digits-all (decimal n) (decimal-digits n), decimal-reads n, lt-ltb n (2 ^ 64) h)

@@ -1,4 +1,4 @@
-// A word of decimal digits as a number of 64 bits. `number_of` takes any bytes.
+// A word of at most 20 decimal digits as a number of 64 bits. `number_of` takes any bytes.
 ghost use mathlib.Core.Path.{_≡_};
 ghost use Rattle.decimal.specs.Numbers.{numberOf};
 
@@ -13,6 +13,9 @@ pub fn number_of(word: &[u8]) -> Number
     ensures { λ r. ⌜ r ≡ numberOf (now (word .entry)) ⌝ }
 {
     if word.len() == 0 {
+        return Number::Wrong;
+    }
+    if 20 < word.len() {
         return Number::Wrong;
     }
     let mut n: u64 = 0;

@@ -1,18 +1,21 @@
 -- Order 8 of document 02: "Every chain so made passes the chain checks, for all seeds": 8, 5 with its gap, and 7 (`passes`). Each period divides 80,000, so the hyperperiod does (`hyper-divides`);
--- of two periods one divides the other, so it is the longest of them (`hyper-longest`), and a table cut there is one partition.
+-- of two periods one divides the other, so it is the longest of them (`hyper-longest`). What that makes of a table is in load_report.
 use Prim.Native.Nat.{ℕ, zero, suc, _+_, _-_, _*_, _%_, _^_, _≤_, _<_, _∣_}
 use native.Mathlib.Omega.{arith}
 use native.Mathlib.Decide.{decLt}
 use native.Mathlib.Nat.{mod-lt, dvd-of-mod-eq-zero, le-of-dvd, dvd-mul-right, dvd-antisymm}
 use mathlib.Core.Path.{_≡_, refl, sym, ap, _∙_}
 use mathlib.Core.Bool.{Bool, true, false, cond, _&&_}
-use mathlib.Core.List.{List}
-use lib.Dec.{leb}
+use mathlib.Core.List.{List, _∷_}
+use lib.Dec.{leb, eqb}
 use lib.ListN.{length, take, length-map}
 use lib.Pow.{pow-add}
 use borrow.Author.Tests.{le-leb, leb-true}
+use Rattle.refusal.specs.declared.Refusal.{Refusal}
+use Rattle.refusal.specs.Refusals.{refusal, none}
+use Rattle.task.specs.declared.Task.{Task}
 use Rattle.task.specs.declared.Place.{Place}
-use Rattle.task.specs.Jobs.{placeOf, Within, gapLimit}
+use Rattle.task.specs.Jobs.{placeOf, Within}
 use Rattle.task.specs.LinkLaws.{limits-hold}
 use Rattle.chain.specs.declared.Chain.{Chain}
 use Rattle.chain.specs.declared.Verdict.the-variants.{Accepted}
@@ -22,8 +25,7 @@ use Rattle.chain.specs.Hyperperiod.{hyperOf}
 use Rattle.chain.specs.Multiples.{hyper-multiple, hyper-least}
 use Rattle.schedule.specs.Padding.{take-padded, length-padded}
 use Rattle.load.specs.declared.Load.{Load}
-use Rattle.load.specs.Load as load
-use Rattle.load.specs.Load.{drawOf, periodOf, drawnPeriod, taskOf, tasksFrom, arrayFrom, loaded, noLoad, loadOf}
+use Rattle.load.specs.Load.{drawOf, periodOf, drawnPeriod, taskOf, drawnTask, tasksFrom, arrayFrom, loaded, noLoad, loadOf}
 
 -- ---- one period
 
@@ -43,7 +45,7 @@ either false f g = g
 pub fit : (x : ℕ) → Fit (periodOf x)
 unfolding periodOf
 fit x =
-    either (leb x 0) (record { low = omega arith; high = omega arith; divides = refl; times = 0; doubled = refl })
+    either (eqb x 0) (record { low = omega arith; high = omega arith; divides = refl; times = 0; doubled = refl })
     (either (leb x 10) (record { low = omega arith; high = omega arith; divides = refl; times = 1; doubled = refl })
     (either (leb x 43) (record { low = omega arith; high = omega arith; divides = refl; times = 2; doubled = refl })
     (either (leb x 58) (record { low = omega arith; high = omega arith; divides = refl; times = 3; doubled = refl })
@@ -83,19 +85,26 @@ within s =
 pub tasks-length : (n s : ℕ) → length (tasksFrom s n) ≡ n
 unfolding tasksFrom
 tasks-length zero s = refl
-tasks-length (suc n) s = ap suc (tasks-length n (load.placeOf s .state))
+tasks-length (suc n) s = ap suc (tasks-length n (drawnTask s .state))
+
+-- The tasks of fewer places are the front of those of more.
+pub front : (k n s : ℕ) → k ≤ n → take k (tasksFrom s n) ≡ tasksFrom s k
+unfolding tasksFrom
+front zero n s h = refl
+front (suc k) zero s h = absurd (omega arith)
+front (suc k) (suc n) s h = ap (λ (l : List Task). drawnTask s .task ∷ l) (front k n (drawnTask s .state) (omega arith))
 
 no-fault : (n s p : ℕ) → firstFault p (tasksFrom s n) ≡ 0
-unfolding tasksFrom firstFault load.placeOf
+unfolding tasksFrom firstFault drawnTask
 no-fault zero s p = refl
-no-fault (suc n) s p = rw (limits-hold (taskOf s) (within s)) (no-fault n (load.placeOf s .state) (p + 1))
+no-fault (suc n) s p = rw (limits-hold (taskOf s) (within s)) (no-fault n (drawnTask s .state) (p + 1))
 
 -- the period at each place is one of the six
 each : (n s p : ℕ) → p < n → Fit (at (placed 0 (tasksFrom s n)) p .period)
-unfolding tasksFrom load.placeOf
+unfolding tasksFrom drawnTask
 each zero s p h = absurd (omega arith)
 each (suc n) s zero h = fit (drawOf s .value % 97)
-each (suc n) s (suc p) h = each n (load.placeOf s .state) p (omega arith)
+each (suc n) s (suc p) h = each n (drawnTask s .state) p (omega arith)
 
 module _ (n s : ℕ) where
   abbrev l : List Place
@@ -121,26 +130,31 @@ module _ (n s : ℕ) where
 
 -- ---- the chain
 
--- A load is refused with 8 at place 0 or not at all,
-pub refused-with : (seed places : ℕ) → (loadOf seed places .refusal .number ≤ 8) × (loadOf seed places .refusal .place ≡ 0)
+-- A load is refused with 8 at place 0 for places outside 1 to 12, and else not at all;
+pub refused-with : (seed places : ℕ) → loadOf seed places .refusal ≡ cond (leb 1 places && leb places 12) none (refusal 8 0)
 unfolding loadOf
 refused-with seed places = go (leb 1 places && leb places 12)
   where
-    go : (b : Bool) → (cond b (loaded seed places) noLoad .refusal .number ≤ 8)
-        × (cond b (loaded seed places) noLoad .refusal .place ≡ 0)
-    go true = (omega arith, refl)
-    go false = (omega arith, refl)
+    go : (b : Bool) → cond b (loaded seed places) noLoad .refusal ≡ cond b none (refusal 8 0)
+    go true = refl
+    go false = refl
 
--- and not refused for 1 to 12 places alone.
+-- so one that is not refused has 1 to 12 places.
 pub not-refused : (seed places : ℕ) → loadOf seed places .refusal .number ≡ 0 → (1 ≤ places) × (places ≤ 12)
-unfolding loadOf
-not-refused seed places = go (leb 1 places) (leb places 12) refl refl
+not-refused seed places h = go (leb 1 places) (leb places 12) refl refl (ap (λ (r : Refusal). r .number) (sym (refused-with seed places)) ∙ h)
   where
-    go : (a b : Bool) → leb 1 places ≡ a → leb places 12 ≡ b → cond (a && b) (loaded seed places) noLoad .refusal .number ≡ 0
-        → (1 ≤ places) × (places ≤ 12)
+    go : (a b : Bool) → leb 1 places ≡ a → leb places 12 ≡ b → cond (a && b) none (refusal 8 0) .number ≡ 0 → (1 ≤ places) × (places ≤ 12)
     go true true e f h = (leb-true 1 places e, leb-true places 12 f)
     go true false e f h = absurd (omega arith)
     go false b e f h = absurd (omega arith)
+
+-- and its code fits one number.
+pub small-refusal : (seed places : ℕ) → (loadOf seed places .refusal .number ≤ 8) × (loadOf seed places .refusal .place ≡ 0)
+small-refusal seed places = rw (refused-with seed places) (go (leb 1 places && leb places 12))
+  where
+    go : (b : Bool) → (cond b none (refusal 8 0) .number ≤ 8) × (cond b none (refusal 8 0) .place ≡ 0)
+    go true = (omega arith, refl)
+    go false = (omega arith, refl)
 
 module _ (seed places : ℕ) (low : 1 ≤ places) (high : places ≤ 12) where
   abbrev c : Chain

@@ -7,7 +7,7 @@ use lib.Dec.{eqb}
 use Rattle.ranges.specs.Entries.{entries, sum}
 use Rattle.load.specs.Load.{periodOf}
 
--- Table III: the period in µs, and n, the number of tasks that have it.
+-- A row of table III: the period in µs, and n, the number of tasks that have it.
 pub record Row : Type 0 where
   pub period : ℕ
   pub tasks : ℕ
@@ -15,8 +15,9 @@ pub record Row : Type 0 where
 abbrev row : ℕ → ℕ → Row
 row t n = record { period = t; tasks = n }
 
-unfoldable pub tableThree : List Row
-tableThree = row 2500 1 ∷ row 5000 10 ∷ row 10000 33 ∷ row 20000 15 ∷ row 40000 23 ∷ row 80000 15 ∷ []
+-- The table without its 33.3 ms row, which has 5 tasks.
+unfoldable pub sixRows : List Row
+sixRows = row 2500 1 ∷ row 5000 10 ∷ row 10000 33 ∷ row 20000 15 ∷ row 40000 23 ∷ row 80000 15 ∷ []
 
 abbrev tasksIn : Row → ℕ
 tasksIn r = r .tasks
@@ -25,11 +26,11 @@ tasksIn r = r .tasks
 abbrev pub picks : Row → ℕ
 picks r = sum (entries (λ x. cond (eqb (periodOf x) (r .period)) 1 0) 0 97)
 
-pub weights : map picks tableThree ≡ map tasksIn tableThree
-unfolding tableThree periodOf entries sum
+pub weights : map picks sixRows ≡ map tasksIn sixRows
+unfolding sixRows periodOf entries sum
 weights = refl
 
 -- 97 is the number of its tasks, so no number is left over.
-pub all-tasks : sum (map tasksIn tableThree) ≡ 97
-unfolding tableThree sum
+pub all-tasks : sum (map tasksIn sixRows) ≡ 97
+unfolding sixRows sum
 all-tasks = refl

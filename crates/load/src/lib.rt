@@ -5,7 +5,7 @@ use refusal::Refusal;
 use task::Task;
 ghost use mathlib.Core.Path.{_≡_};
 ghost use Prim.Native.Nat.{_≤_};
-ghost use Rattle.load.specs.Load.{drawOf, periodOf, placeOf, arrayFrom, noLoad, loadOf};
+ghost use Rattle.load.specs.Load.{drawOf, periodOf, drawnTask, arrayFrom, noLoad, loadOf};
 
 // A draw: the state s after it, and the number that it gives.
 pub struct Draw {
@@ -13,8 +13,8 @@ pub struct Draw {
     pub value: u64,
 }
 
-// A place of the chain: its task, and the state s after its two draws.
-struct Place {
+// The task at a place, and the state s after its two draws.
+struct DrawnTask {
     task: Task,
     state: u64,
 }
@@ -40,7 +40,7 @@ pub fn next_draw(s: u64) -> Draw
 fn period_of(x: u64) -> u64
     ensures { λ r. ⌜ r ≡ periodOf x ⌝ }
 {
-    if x <= 0 {
+    if x == 0 {
         return 2500;
     }
     if x <= 10 {
@@ -59,8 +59,8 @@ fn period_of(x: u64) -> u64
 }
 
 // One place: the first draw picks the period, the second gives the phase.
-fn place_of(s: u64) -> Place
-    ensures { λ r. ⌜ r ≡ placeOf s ⌝ }
+fn draw_task(s: u64) -> DrawnTask
+    ensures { λ r. ⌜ r ≡ drawnTask s ⌝ }
 {
     let first = next_draw(s);
     let period = period_of(first.value % 97);
@@ -70,7 +70,7 @@ fn place_of(s: u64) -> Place
         duration: period,
         phase: second.value % period,
     };
-    Place {
+    DrawnTask {
         task,
         state: second.state,
     }
@@ -90,10 +90,10 @@ fn tasks_from(seed: u64, places: usize) -> [Task; 12]
     let mut s = seed;
     let mut i: usize = 0;
     while i < places {
-        let p = place_of(s);
-        let a = p.task;
+        let d = draw_task(s);
+        let a = d.task;
         tasks[i] = a;
-        s = p.state;
+        s = d.state;
         i += 1;
     }
     tasks

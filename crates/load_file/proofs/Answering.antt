@@ -1,14 +1,13 @@
 -- What the returns of the answer show.
-use Prim.Native.Nat.{ℕ, zero, suc, _+_, _*_, _≤_, _<_}
+use Prim.Native.Nat.{ℕ, zero, suc, _≤_}
 use native.Mathlib.Omega.{arith}
-use mathlib.Core.Path.{_≡_, refl, sym, ap, _∙_}
+use mathlib.Core.Path.{_≡_, sym, ap, _∙_}
 use mathlib.Core.Bool.{true, false}
 use mathlib.Core.List.{List, [], _∷_, _++_}
 use lib.ListN.{length, take, drop, replicate, length-replicate}
 use lib.Seq.{take-all}
 use borrow.Author.Tests.{eq-eqb, ne-eqb, le-leb}
 use Rattle.refusal.specs.declared.Refusal.{Refusal}
-use Rattle.chain.specs.declared.Chain.{Chain}
 use Rattle.schedule.specs.declared.Schedule.{Schedule}
 use Rattle.schedule.specs.Schedules.{padded}
 use Rattle.schedule.specs.Padding.{padded-none}
@@ -26,7 +25,7 @@ use Rattle.decimal.specs.declared.Number.the-variants.{Of, Wrong}
 use Rattle.decimal.specs.Numbers.{numberOf}
 use Rattle.load_file.specs.declared.Answer.{Answer}
 use Rattle.load_file.specs.LoadFile.{aloneOf, loadFile}
-use Rattle.load_file.specs.Answers.{told, given, placesLine, seedLine, wordsLine, fileAnswer, afterPlaces, placesAnswer, afterSeed, answerTo}
+use Rattle.load_file.specs.Answers.{told, placesLine, seedLine, wordsLine, fileAnswer, afterPlaces, placesAnswer, afterSeed, answerTo}
 use Rattle.load_file.specs.ReadBack.{sound-load, file-length}
 
 -- ---- a line

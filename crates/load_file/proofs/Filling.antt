@@ -11,11 +11,10 @@ use Rattle.chain.specs.declared.Chain.{Chain}
 use Rattle.chain.specs.Chains.{zeroTask, givenOf}
 use Rattle.ranges.specs.Entries.{entries, entries-length, entries-more}
 use Rattle.schedule.specs.declared.NumberedTask.{NumberedTask}
-use Rattle.schedule.specs.declared.Route.{Route}
 use Rattle.schedule.specs.declared.Schedule.{Schedule}
 use Rattle.schedule.specs.Schedules.{padded, zeroNumbered, emptyRoute}
 use Rattle.schedule.specs.Padding.{padded-none, padded-set}
-use Rattle.load_file.specs.LoadFile.{numberedFrom, numbersFrom, numbersTo, aloneOf}
+use Rattle.load_file.specs.LoadFile.{numberedFrom, numbersTo, aloneOf}
 use Rattle.load_file.specs.ReadBack.{numbered-length}
 
 -- one entry more of any of them

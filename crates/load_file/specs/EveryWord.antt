@@ -1,8 +1,8 @@
--- What the answers of chainload have: every answer fits its 256 bytes (`answer-fits`), and the bytes that are put out are the file or the line (`put-file`, `put-line`).
--- Every seed of 64 bits and each number of places has words for which the file is given (`every-seed`), and whoever has the same two numbers, however they are spelt, has the same answer (`same-bytes`).
-use Prim.Native.Nat.{ℕ, zero, suc, _+_, _*_, _^_, _≤_, _<_}
+-- What the answers of chainload have: every answer fits its 256 bytes (`answer-fits`); every seed of 64 bits and each number of places has words, in plain decimal, for which the file is put out
+-- (`every-seed`, `puts-file`); and whoever has the same two numbers, with leading zeros or without, has the same answer (`same-bytes`).
+use Prim.Native.Nat.{ℕ, _^_, _≤_, _<_}
 use native.Mathlib.Omega.{arith}
-use mathlib.Core.Path.{_≡_, refl, sym, ap, _∙_}
+use mathlib.Core.Path.{_≡_, refl, ap, _∙_}
 use mathlib.Core.Bool.{Bool, true, false, cond}
 use mathlib.Core.List.{List}
 use lib.Dec.{eqb}
@@ -19,7 +19,7 @@ use Rattle.decimal.specs.Numbers.{numberOf}
 use Rattle.decimal.specs.ReadBack.{decimal-number}
 use Rattle.load_file.specs.declared.Answer.{Answer}
 use Rattle.load_file.specs.LoadFile.{loadFile}
-use Rattle.load_file.specs.Answers.{told, given, wordsLine, seedLine, placesLine, fileAnswer, afterPlaces, placesAnswer, afterSeed, answerTo}
+use Rattle.load_file.specs.Answers.{told, given, wordsLine, seedLine, placesLine, fileAnswer, afterPlaces, afterSeed, answerTo}
 use Rattle.load_file.specs.ReadBack.{file-length}
 
 -- ---- every answer fits
@@ -66,19 +66,11 @@ answer-fits count seed places = go (eqb count 3)
     go true = seed-fits (numberOf seed) places
     go false = told-fits wordsLine (omega arith)
 
--- ---- what is put out
+-- ---- every seed, and the same bytes
 
--- The first bytes, as many as are counted.
+-- The first bytes, as many as are counted, are put out.
 abbrev pub putOut : Answer → List ℕ
 putOut a = take (a .long) (a .bytes)
-
-pub put-file : (file : List ℕ) → length file ≤ 256 → putOut (given file) ≡ file
-put-file file h = take-padded 0 256 file h
-
-pub put-line : (line : List ℕ) → length line ≤ 256 → putOut (told line) ≡ line
-put-line line h = take-padded 0 256 line h
-
--- ---- every seed, and the same bytes
 
 module _ (seed places : ℕ) (wide : seed < 2 ^ 64) (low : 1 ≤ places) (high : places ≤ 12) where
   file-made : fileAnswer seed places ≡ given (loadFile seed places)
@@ -88,6 +80,10 @@ module _ (seed places : ℕ) (wide : seed < 2 ^ 64) (low : 1 ≤ places) (high :
   pub every-seed : answerTo 3 (decimal seed) (decimal places) ≡ given (loadFile seed places)
   unfolding answerTo afterSeed afterPlaces
   every-seed = rw (decimal-number seed wide, decimal-number places (omega arith)) file-made
+
+  -- What is put out is the file.
+  pub puts-file : putOut (answerTo 3 (decimal seed) (decimal places)) ≡ loadFile seed places
+  puts-file = ap putOut every-seed ∙ take-padded 0 256 (loadFile seed places) (omega (arith, file-length seed places low high))
 
 pub same-bytes : (seed seed′ places places′ : List ℕ) → numberOf seed ≡ numberOf seed′ → numberOf places ≡ numberOf places′ → answerTo 3 seed places ≡ answerTo 3 seed′ places′
 unfolding answerTo afterSeed

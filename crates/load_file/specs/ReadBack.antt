@@ -6,11 +6,10 @@ use native.Mathlib.Decide.{decLt}
 use mathlib.Core.Path.{_≡_, refl, sym, ap, _∙_}
 use mathlib.Core.Bool.{true}
 use mathlib.Core.List.{List, [], _∷_, _++_, map, append-nil}
-use lib.ListN.{length, take, length-map}
+use lib.ListN.{length}
 use borrow.Author.Tests.{le-leb, lt-ltb, eq-eqb, ne-eqb}
 use Rattle.refusal.specs.Refusals.{none}
 use Rattle.task.specs.declared.Task.{Task}
-use Rattle.task.specs.Jobs.{withinLimits, gapLimit}
 use Rattle.task.specs.LinkLaws.{limits-hold}
 use Rattle.chain.specs.declared.Chain.{Chain}
 use Rattle.chain.specs.Chains.{givenOf, zeroTask}
@@ -26,12 +25,11 @@ use Rattle.schedule_checks.specs.SoundSchedule.{SoundSchedule}
 use Rattle.file_reader.specs.Reading.{readFile}
 use Rattle.file_writer.specs.FileBytes.{chainBytes, chainsBytes, gapBytes, fileOf, fileBytes}
 use Rattle.file_writer.specs.Lengths.{length-chain, length-file}
-use Rattle.round_trip.specs.Right.{Placed, no-chain, one-more, Right}
+use Rattle.round_trip.specs.Right.{no-chain, one-more, Right}
 use Rattle.round_trip.specs.ReadAfterWrite.{read-of-file}
 use Rattle.round_trip.specs.RoundTrips.{routes-front, routes-back, right-sound, right-arrays}
 use Rattle.load.specs.declared.Load.{Load}
-use Rattle.load.specs.Load as load
-use Rattle.load.specs.Load.{taskOf, tasksFrom, loaded, loadOf}
+use Rattle.load.specs.Load.{taskOf, drawnTask, tasksFrom, loadOf}
 use Rattle.load.specs.Passes as passes
 use Rattle.load_file.specs.LoadFile.{numberedFrom, numbersFrom, numbersTo, aloneOf, loadFile}
 
@@ -76,10 +74,10 @@ tasks-at n (a ∷ l) =
 
 -- the tasks of a seed keep the rule
 rule-kept : (k s n before p : ℕ) → before < n → n + k ≤ 65536 → firstFault p before (numberedFrom n (tasksFrom s k)) ≡ 0
-unfolding tasksFrom numberedFrom firstFault taskRule load.placeOf
+unfolding tasksFrom numberedFrom firstFault taskRule drawnTask
 rule-kept zero s n before p h g = refl
 rule-kept (suc k) s n before p h g =
-    rw (lt-ltb before n h, le-leb n 65535 (omega arith), limits-hold (taskOf s) (passes.within s)) (rule-kept k (load.placeOf s .state) (suc n) n (p + 1) (omega arith) (omega arith))
+    rw (lt-ltb before n h, le-leb n 65535 (omega arith), limits-hold (taskOf s) (passes.within s)) (rule-kept k (drawnTask s .state) (suc n) n (p + 1) (omega arith) (omega arith))
 
 -- ---- the file
 

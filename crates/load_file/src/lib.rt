@@ -127,6 +127,7 @@ fn file_answer(seed: u64, places: usize) -> Answer
             long,
             bytes,
         },
+        // It cannot come, which is proved: the schedule is sound, and 256 bytes hold its file.
         Written::Refused(_) => Answer {
             made: true,
             long: 0,

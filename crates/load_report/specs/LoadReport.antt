@@ -1,18 +1,16 @@
--- What a load is to the rest of the program: its table has one anchor and is whole in any lists, at every cut (`one-anchor`), one partition is walked where it is cut at the longest period (`one-partition`),
--- and chainreport prints, for the file that chainload writes, the table of the very chain that the seed makes, never a refusal (`load-report`). `table-for-c` says the first of mo_load and mo_make_table.
-use Prim.Native.Nat.{ℕ, zero, suc, _-_, _/_, _≤_, _<_}
+-- What a load is to the rest of the program: its table has one anchor, at every cut (`one-anchor`), and is whole in two lists of equal length that have an entry (`whole-table`); one partition is walked where it is cut at the longest period (`one-partition`),
+-- and chainreport prints, for the file that chainload writes, the table of the very chain that the seed makes, never a refusal (`load-report`). `check-for-c` and `table-for-c` say it of mo_load, mo_check and mo_make_table.
+use Prim.Native.Nat.{ℕ, _-_, _/_, _≤_, _<_, _∣_}
 use native.Mathlib.Omega.{arith}
 use native.Mathlib.Nat.{div-self, pos-of-dvd-of-pos}
 use mathlib.Core.Path.{_≡_, refl, sym, ap, _∙_}
 use mathlib.Core.List.{List, [], _∷_, _++_, append-nil}
 use lib.ListN.{length, getD, length-map}
-use Rattle.refusal.specs.Refusals.{none}
 use Rattle.task.specs.declared.Place.{Place}
 use Rattle.task.specs.Jobs.{placeOf}
 use Rattle.chain.specs.declared.Chain.{Chain}
 use Rattle.chain.specs.Chains.{givenOf, tasksOf, at}
 use Rattle.chain.specs.Hyperperiod.{hyperOf}
-use Rattle.schedule.specs.declared.Schedule.{Schedule}
 use Rattle.schedule.specs.Schedules.{chainAt}
 use Rattle.chain.proofs.CheckLaws.{Facts, accepted}
 use Rattle.timing.specs.WarmUp.{warmAt}
@@ -27,12 +25,12 @@ use Rattle.agreement.specs.EveryChain.{Asked, anchorCount, count-few, room-enou
 use Rattle.latency.specs.LongestPlace.{longestPlace, Longest, longest-place}
 use Rattle.text.specs.Text.{ascii, line}
 use Rattle.table_text.specs.TableText.{tableText}
-use Rattle.file_reader.specs.declared.FileRead.{FileRead}
 use Rattle.report.specs.Report.{madeText, chainText, partText, partsText, scheduleText, fileText, reportOf}
 use Rattle.capi_chain.specs.FlatChain.{chainFrom}
+use Rattle.capi_timing.specs.Calls.{verdictCode, verdictHyper, GivesCheck}
 use Rattle.capi_maker.specs.Calls.{madeCode, madeNumbers, GivesTable}
 use Rattle.capi_load.specs.Calls.{GivesLoad}
-use Rattle.capi_load.specs.Passes.{places-for-c, load-for-c}
+use Rattle.capi_load.specs.Passes.{places-for-c, load-for-c, passes-for-c}
 use Rattle.load.specs.declared.Load.{Load}
 use Rattle.load.specs.Load.{loadOf}
 use Rattle.load.specs.Passes.{tasks-length, twelve-tasks, made, given, passes, hyper-divides, hyper-longest}
@@ -103,8 +101,16 @@ module _ (seed places : ℕ) (low : 1 ≤ places) (high : places ≤ 12) where
       ∙ ap (partText 1024 1) (load-chain seed places low high)
       ∙ ap (λ (m : Made). line (ascii "chain") (1 ∷ []) ++ madeText m (writtenOf c (longestPlace l) 1024 1024)) (whole-table (longestPlace l) (longest .some) (omega (arith, longest .inside, counted)) 1024 (omega arith))
 
--- The same for C: what mo_load gives with code 0, mo_make_table makes a table of at each place, in lists of one entry or more, and counts one anchor.
+-- The same for C, of what mo_load gives with code 0.
 module _ (seed places code : ℕ) (tasks : List ℕ) (gives : GivesLoad seed places code tasks) (fine : code ≡ 0) where
+  -- mo_check answers 0 and a hyperperiod that divides 80,000,
+  pub check-for-c : (code′ hyperperiod : ℕ) → GivesCheck (chainFrom tasks places 0) code′ hyperperiod → (code′ ≡ 0) × (hyperperiod ≡ hyperOf (tasksOf (chainFrom tasks places 0))) × (hyperperiod ∣ 80000)
+  check-for-c code′ hyperperiod checks =
+      let k = passes-for-c seed places code tasks gives fine in
+      let e : hyperperiod ≡ hyperOf (tasksOf (chainFrom tasks places 0)) = checks .1 ∙ ap verdictHyper (k .0) in
+      (checks .0 ∙ ap verdictCode (k .0), e, rw e (k .1))
+
+  -- and mo_make_table makes a table of one anchor at each place, in lists of one entry or more.
   pub table-for-c : (p : ℕ) → 1 ≤ p → p ≤ places → (s v : List ℕ) → length s ≡ length v → 1 ≤ length s
       → (code′ : ℕ) (s′ v′ figures : List ℕ) → GivesTable (chainFrom tasks places 0) p s v code′ s′ v′ figures → (code′ ≡ 0) × (getD figures 0 0 ≡ 1)
   table-for-c p from to s v equal some code′ s′ v′ figures table =

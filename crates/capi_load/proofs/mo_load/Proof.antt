@@ -5,7 +5,7 @@ use borrow.Author.Needs.{needs}
 use Rattle.refusal.specs.Refusals.{codeOf}
 use Rattle.chain.specs.Flat.{flatChain}
 use Rattle.load.specs.declared.Load.{Load}
-use Rattle.load.specs.Passes.{refused-with}
+use Rattle.load.specs.Passes.{small-refusal}
 use Rattle.capi_load.proofs.mo_load.Statement.{statement}
 use Rattle.capi_load.proofs.mo_load.Tie as tie
 
@@ -19,7 +19,7 @@ code-requires : tie.Need-code-requires
 code-requires c κs =
     let m = c .before .before .make-load in
     let a = c .before .before .before .args in
-    let s = refused-with (a .seed) (a .places) in
+    let s = small-refusal (a .seed) (a .places) in
     rw (m .ensures) (omega (arith, s .0), omega (arith, s .1))
 
 returns : tie.Need-returns

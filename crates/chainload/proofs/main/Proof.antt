@@ -3,7 +3,6 @@ use native.Mathlib.Omega.{arith}
 use mathlib.Core.Path.{sym, subst}
 use lib.Seq.{length-take-le}
 use borrow.Author.Needs.{needs}
-use Rattle.load_file.specs.declared.Answer.{Answer}
 use Rattle.load_file.specs.EveryWord.{Fits, answer-fits}
 use Rattle.chainload.proofs.main.Statement.{statement}
 use Rattle.chainload.proofs.main.Tie as tie

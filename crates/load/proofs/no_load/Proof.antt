@@ -1,8 +1,6 @@
 -- `load::no_load` meets its contract.
 use mathlib.Core.Path.{sym, ap, _∙_}
-use mathlib.Core.List.{List}
 use borrow.Author.Needs.{needs}
-use Rattle.task.specs.declared.Task.{Task}
 use Rattle.load.proofs.Exits.{refusedWith, empty}
 use Rattle.load.proofs.no_load.Statement.{statement}
 use Rattle.load.proofs.no_load.Tie as tie

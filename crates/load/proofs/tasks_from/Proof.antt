@@ -18,8 +18,8 @@ abbrev μ-loop : tie.MeasureT-loop
 loop-holds : tie.Need-loop-holds Inv-loop μ-loop
 loop-holds c = (omega arith, refl, begins _, empty _)
 
-place-of-requires : tie.Need-place-of-requires Inv-loop μ-loop
-place-of-requires c κs = search needs
+draw-task-requires : tie.Need-draw-task-requires Inv-loop μ-loop
+draw-task-requires c κs = search needs
 
 mul-tasks : tie.Need-mul-tasks Inv-loop μ-loop
 mul-tasks c = search needs
@@ -37,7 +37,7 @@ loop-again : tie.Need-loop-again Inv-loop μ-loop
 loop-again c =
     let n = c .before .before in
     let l = n .before .loop in
-    let p = c .before .place-of in (
+    let p = c .before .draw-task in (
       omega arith,
       rw (length-set (l .tasks) (l .i) (p .result .task)) (l .inv .1),
       state-on _ (l .i) (l .s) (p .result) (l .inv .2) (p .ensures),
@@ -57,7 +57,7 @@ tasks-from-spec =
     Inv-loop
     μ-loop
     loop-holds
-    place-of-requires
+    draw-task-requires
     mul-tasks
     array-set-from-tasks
     add-i

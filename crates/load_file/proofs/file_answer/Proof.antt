@@ -1,5 +1,5 @@
 -- `load_file::file_answer` meets its contract: the file of a load is never refused, so the last arm is never met.
-use mathlib.Core.Path.{sym, _∙_}
+use mathlib.Core.Path.{_∙_}
 use borrow.Author.Needs.{needs}
 use Rattle.load_file.proofs.Answering.{refused-places, few-places, not-refused, file-given}
 use Rattle.load_file.proofs.file_answer.Statement.{statement}

@@ -1,5 +1,4 @@
 -- `load_file::schedule_of` meets its contract.
-use native.Mathlib.Omega.{arith}
 use lib.ListN.{length-map}
 use borrow.Author.Needs.{needs}
 use Rattle.load_file.proofs.Filling.{alone-made}
