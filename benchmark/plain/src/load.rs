@@ -1,4 +1,5 @@
 //! Made-up chains from a seed.
+use crate::division::remainder;
 use crate::task::Task;
 use crate::{Refusal, MOST_PLACES};
 
@@ -30,6 +31,6 @@ pub fn make_load(seed: u64, places: usize) -> Result<impl Iterator<Item = Task>,
     let mut draws = Draws(seed);
     Ok((0..places).map(move |_| {
         let period = period_of(draws.next() % 97);
-        Task { period, duration: period, phase: draws.next() % period }
+        Task { period, duration: period, phase: remainder(draws.next(), period) }
     }))
 }
