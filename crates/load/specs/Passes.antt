@@ -148,13 +148,13 @@ not-refused seed places h = go (leb 1 places) (leb places 12) refl refl (ap (λ 
     go true false e f h = absurd (omega arith)
     go false b e f h = absurd (omega arith)
 
--- and its code fits one number.
-pub small-refusal : (seed places : ℕ) → (loadOf seed places .refusal .number ≤ 8) × (loadOf seed places .refusal .place ≡ 0)
-small-refusal seed places = rw (refused-with seed places) (go (leb 1 places && leb places 12))
+-- and of any load the refusal fits one number.
+pub small-refusal : (seed places : ℕ) (m : Load) → m ≡ loadOf seed places → (m .refusal .number < 256) × (m .refusal .place ≤ 1000000000)
+small-refusal seed places m e = rw (e, refused-with seed places) (go (leb 1 places && leb places 12))
   where
-    go : (b : Bool) → (cond b none (refusal 8 0) .number ≤ 8) × (cond b none (refusal 8 0) .place ≡ 0)
-    go true = (omega arith, refl)
-    go false = (omega arith, refl)
+    go : (b : Bool) → (cond b none (refusal 8 0) .number < 256) × (cond b none (refusal 8 0) .place ≤ 1000000000)
+    go true = (omega arith, omega arith)
+    go false = (omega arith, omega arith)
 
 module _ (seed places : ℕ) (low : 1 ≤ places) (high : places ≤ 12) where
   abbrev c : Chain

@@ -1,5 +1,4 @@
 -- `capi_load::mo_load` meets its contract.
-use native.Mathlib.Omega.{arith}
 use mathlib.Core.Path.{ap, _∙_}
 use borrow.Author.Needs.{needs}
 use Rattle.refusal.specs.Refusals.{codeOf}
@@ -16,11 +15,7 @@ flat-requires : tie.Need-flat-requires
 flat-requires c κs = search needs
 
 code-requires : tie.Need-code-requires
-code-requires c κs =
-    let m = c .before .before .make-load in
-    let a = c .before .before .before .args in
-    let s = small-refusal (a .seed) (a .places) in
-    rw (m .ensures) (omega (arith, s .0), omega (arith, s .1))
+code-requires c κs = let m = c .before .before .make-load in small-refusal _ _ (m .result) (m .ensures)
 
 returns : tie.Need-returns
 returns c =
