@@ -1041,6 +1041,93 @@ def bookings_refused(ours, r, factor, compare):
         compare.must_meet("ok", 5, OF_GAP, 6, 7, 8, 12, 13, 16)
 
 
+# ---- Test loads
+
+def compare_load(ours, seed, places, compare):
+    """One load, which is the reference's. Counts its periods, the numbers at the ends of the periods, and the phases at their ends."""
+    mine, theirs = ours.load(seed, places), reference.load(seed, places)
+    compare.same(mine, theirs, "load", seed, places)
+    compare.meet(theirs)
+    for place, (t, _, f) in enumerate(theirs[1] if theirs[0] == "ok" else (), start=1):
+        number = inputs.drawn(seed, 2 * place - 1) % 97
+        compare.note(f"period {t}")
+        if number in inputs.LOAD_ENDS:
+            compare.note(f"number {number}")
+        if f in (0, t - 1):
+            compare.note(f"phase {f} of {t}")
+    return mine
+
+
+LOAD_PERIODS = sorted(set(inputs.LOAD_ENDS.values()))
+
+
+@group
+def loads(ours, r, factor, compare):
+    """test loads: seeds at the ends of 64 bits and others, every number of places and numbers that are none; each number and phase at an end of its range, at each place"""
+    for seed in inputs.edge_seeds():
+        for places in (1, 12, r.randint(2, 11), r.choice(inputs.NO_PLACES)):
+            compare_load(ours, seed, places, compare)
+    for seed in (0, 1, 2**63, proved.LARGEST, inputs.any_seed(r)):
+        for places in [*range(15), *inputs.NO_PLACES]:
+            compare_load(ours, seed, places, compare)
+    compare.must_meet("ok", 8)
+    for _ in range(int(5000 * factor)):
+        seed = inputs.any_seed(r)
+        whole, front = compare_load(ours, seed, 12, compare), compare_load(ours, seed, r.randint(1, 11), compare)
+        # Fewer places are the front of more.
+        compare.same(front, (*whole[:1], whole[1][:len(front[1])], *whole[2:]) if "ok" == front[0] == whole[0] else None, "front", seed)
+        compare_load(ours, seed, r.choice([*inputs.NO_PLACES, r.randint(13, proved.LARGEST)]), compare)
+    compare.must_meet("ok", 8, *(f"period {t}" for t in LOAD_PERIODS))
+    for place, (number, period) in itertools.product(range(1, 13), inputs.LOAD_ENDS.items()):
+        for _ in range(max(1, int(5 * factor))):
+            seed = inputs.seed_of_number(r, place, number)
+            mine = compare_load(ours, seed, place, compare)
+            compare.same(mine[0] == "ok" and mine[1][-1][:2], (period, period), "number", number, seed, place)
+    compare.must_meet("ok", *(f"number {number}" for number in inputs.LOAD_ENDS))
+    for place, period in itertools.product(range(1, 13), LOAD_PERIODS):
+        for phase in (0, 1, period // 2, period - 2, period - 1):
+            seed = inputs.seed_of_phase(r, place, period, phase)
+            mine = compare_load(ours, seed, place, compare)
+            compare.same(mine[0] == "ok" and mine[1][-1], (period, period, phase), "phase", seed, place)
+    compare.must_meet("ok", *(f"phase {phase} of {t}" for t in LOAD_PERIODS for phase in (0, t - 1)))
+
+
+@group
+def load_chains(ours, r, factor, compare):
+    """test loads as chains: checks, a table in lists of one entry at every cut, its figures, delay, age, windows, sections and the file"""
+    ends = list(inputs.LOAD_ENDS)
+    for i in range(max(44, int(440 * factor))):
+        # One place has its one period as the longest; in turn each of the periods comes to that.
+        places = 1 if i % 4 == 0 else r.randint(2, 12)
+        seed = inputs.seed_of_number(r, 1, ends[i % len(ends)])
+        tasks = reference.load(seed, places)[1]
+        compare.same(ours.load(seed, places), ("ok", tasks, 0), "load", seed, places)
+        numbers, longest_one = lent(r, tasks), max(t for t, _, _ in tasks)
+        compare.note(longest(t for t, _, _ in tasks))
+        compare.same(ours.check(numbers, places, 0), ("ok", longest_one), "check", seed, places)
+        compare.same(80000 % longest_one, 0, "divides 80,000", seed, places)
+        warm = reference.warm_up(tasks, 0)
+        compare.same(ours.warm_up(numbers, places, 0), warm, "warm-up", seed, places)
+        for p in range(1, places + 1):
+            (answer, starts, latencies) = compare_making(ours, r, tasks, 0, numbers, p, (1, 1), compare)
+            compare.same(answer, ("ok", 1, warm[2], longest_one, longest_one // tasks[p - 1][0]), "one anchor", seed, places, p)
+        table = (starts, latencies, 1, longest_one)
+        compare_figures(ours, proved.Table(*table), table, compare)
+        for t in inputs.ticks_around(r, [warm[2], warm[2] + longest_one], 6):
+            compare.same(ours.delay(numbers, places, 0, t), reference.delay(tasks, 0, t), "delay", seed, places, t)
+            compare.same(ours.age(numbers, places, 0, t), reference.age(tasks, 0, t), "age", seed, places, t)
+            compare.same(ours.read_table(proved.Table(*table), t), ours.delay(numbers, places, 0, t), "table and walk", seed, places, t)
+        compare_windows(ours, numbers, tasks, 0, r.choice(window_bounds(r, tasks, 0, warm)), r.choice([1, 2, 100]), compare)
+        compare_sections(ours, numbers, tasks, 0, inputs.some_cuts(r, places), compare)
+        # The file, whose tasks are numbered from 1 and whose chain has them in that order: by the reference, by hand and by the call.
+        numbered, chain = [(n, *task) for n, task in enumerate(tasks, start=1)], list(range(1, places + 1))
+        data = reference.load_file(seed, places)[1]
+        compare.same(data, inputs.joined(inputs.records(numbered, [chain], 0)), "file", seed, places)
+        compare.same(ours.write_file(inputs.lent_schedule(r, numbered, [chain], 0), bytes(len(data))), (("ok", len(data)), data), "writing", seed, places)
+        compare_reading(ours, data, compare)
+    compare.must_meet("ok", *(longest([t]) for t in LOAD_PERIODS))
+
+
 def outcome(job):
     """What one group found: comparisons, disagreements, the first few of them, the answers met, and its time. It runs in a process of its own."""
     at, seed, count = job

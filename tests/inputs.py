@@ -830,3 +830,52 @@ def pair_ticks(r, warm, common, count):
     some = [middle + step for middle in middles for step in (-1, 0, 1)]
     some = within([*some, 0, LARGEST, 2**63, r.randint(0, max(warm) + common), r.randint(0, UPPER), r.randint(max(warm), UPPER)])
     return r.sample(some, min(count, len(some)))
+
+
+# Test loads. A draw sets the state so much further, modulo 2^64, so that each can be had by itself.
+
+DRAW_STEP = 0x9E3779B97F4A7C15
+# The first and the last number that pick each period.
+LOAD_ENDS = {0: 2500, 1: 5000, 10: 5000, 11: 10000, 43: 10000, 44: 20000, 58: 20000, 59: 40000, 81: 40000, 82: 80000, 96: 80000}
+# Numbers of places that no load has; some would be one to a call that kept fewer bits.
+NO_PLACES = [0, 13, 14, 2**8 + 1, 2**16 + 12, 2**32, 2**32 + 1, 2**32 + 12, 2**63, 2**63 + 3, LARGEST - 11, LARGEST]
+
+
+def drawn(seed, n):
+    """Draw n of a seed, counted from 1."""
+    s = (seed + n * DRAW_STEP) % 2**64
+    return s ^ s >> 31
+
+
+def seed_of(n, number):
+    """The seed whose draw n is this number: the upper 31 bits of the state are the number's own, and undo the others from above."""
+    return ((number ^ number >> 31 ^ number >> 62) - n * DRAW_STEP) % 2**64
+
+
+def with_rest_by(r, divisor, rest):
+    """A number of 64 bits with this rest, of any size."""
+    return rest + divisor * (r.randint(0, (LARGEST - rest) // divisor) >> r.choice([0, 0, 0, 30, 60]))
+
+
+def seed_of_number(r, place, number):
+    """A seed whose first draw at this place has this rest by 97."""
+    return seed_of(2 * place - 1, with_rest_by(r, 97, number))
+
+
+def seed_of_phase(r, place, period, phase):
+    """A seed that has this period and phase at this place: of the second draws with this phase one has the period before it."""
+    numbers = [number for number, t in LOAD_ENDS.items() if t == period]
+    while True:
+        seed = seed_of(2 * place, with_rest_by(r, period, phase))
+        if min(numbers) <= drawn(seed, 2 * place - 1) % 97 <= max(numbers):
+            return seed
+
+
+def edge_seeds():
+    """Seeds at the ends of 64 bits and around each power of two; and such as bring the state, at some draw, to the ends of 64 bits or of the shift."""
+    states = [0, 1, 2**31 - 1, 2**31, 2**32, 2**62, 2**63, LARGEST]
+    return within([power + step for power in [0, *(2**i for i in range(65))] for step in (-1, 0, 1)] + [(state - n * DRAW_STEP) % 2**64 for state in states for n in range(25)])
+
+
+def any_seed(r):
+    return r.choice([r.randint(0, LARGEST), r.randint(0, LARGEST), r.randint(0, 10**6), r.randint(LARGEST - 10**6, LARGEST)])

@@ -72,6 +72,16 @@ def make(flat, places, gap, p, starts, latencies):
     return answered(calls.make_table, Chain(flat, places, gap), p, first, second), list(first), list(second)
 
 
+def load(seed, places):
+    """A test load as a list of (T, D, F), and its gap."""
+    answer = answered(calls.load, seed, places)
+    if answer[0] != "ok":
+        return answer
+    chain = answer[1]
+    tasks = [chain.task(place) for place in range(1, chain.places + 1)]
+    return ("ok", tasks, chain.gap) if len(chain.tasks) == 3 * chain.places else ("length", chain)
+
+
 # The calls on a lent table.
 
 def read_table(table, t):

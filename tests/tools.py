@@ -42,6 +42,7 @@ import report as reports
 from meshorchard import Broken, Chain, Refused, Schedule, Table, analysis, calls, command, words
 from meshorchard import page as pages
 from meshorchard import streams as streams_of
+from meshorchard.lent import UNWRITTEN
 
 PROGRAM = os.path.join(TOP, "meshorchard")
 EXAMPLES = sorted(glob.glob(os.path.join(TOP, "examples", "*.schedule")))
@@ -1158,6 +1159,7 @@ ANSWERS = {
     "sections": ((CHAIN_A, [1]), ((8, 12), 20)), "write_file": ((SCHEDULE_A, bytearray(698)), len(FILE_A)), "chain_of_schedule": ((SCHEDULE_A, 1), ([4, 4, 0, 6, 6, 0], 2, 0)),
     "bookings": ((SCHEDULE_A, 1, 2, 0), reference.bookings([(4, 4, 0), (6, 6, 0)], 0, [(6, 6, 0)], 0, 0)[1:]),
     "report": ((FILE_A, bytearray(92000)), len(reference.report(FILE_A))),
+    "load": ((0, 3), ([10000, 10000, 8591, 10000, 10000, 7183, 40000, 40000, 26767], 3, 0)),
 }
 # What each refusal comes from: a call and its arguments, with the place.
 REFUSALS = {
@@ -1182,7 +1184,7 @@ def declared_cases():
     """Every call of the header is a typed function with the answer that it should have."""
     with open(os.path.join(TOP, "include", "meshorchard.h"), encoding="utf-8") as header:
         names = re.findall(r"^\w+ mo_(\w+)\(", re.sub(r"/\*.*?\*/", "", header.read(), flags=re.DOTALL), re.MULTILINE)
-    assert len(names) == len(set(names)) == len(ANSWERS) == 19, names
+    assert len(names) == len(set(names)) == len(ANSWERS) == 20, names
     for name in names:
         function = getattr(calls, name, None)
         typed = callable(function) and all(each.annotation is not each.empty for each in inspect.signature(function).parameters.values())
@@ -1197,6 +1199,9 @@ def declared_cases():
         counts = array("Q", [7] * length)
         rest = calls.histogram(TABLE_A, width, counts)
         yield f"calls.histogram of width {width} and {length} counts", ("ok", list(counts), rest), reference.histogram(*shape(TABLE_A), width, length)
+    for seed, places in ((0, 1), (1, 2), (2**64 - 1, 12), (2**63, 11), (0xDEADBEEF, 4)):
+        chain, right = calls.load(seed, places), Chain.of(reference.load(seed, places)[1])
+        yield f"calls.load of seed {seed} and {places} places, as a chain", (chain, proved.answered(calls.check, chain)), (right, ("ok", max(right.tasks[::3])))
 
 
 def refusal_cases():
@@ -1212,6 +1217,8 @@ def refusal_cases():
     for table, width, refusal in ((TABLE_A, 0, 18), (dataclasses.replace(TABLE_A, anchors=3), 0, 14), (dataclasses.replace(TABLE_A, anchors=3), 5, 14)):
         counts = array("Q", [7, 8, 9])
         yield f"a histogram that is refused with {refusal}, and its list", (proved.answered(calls.histogram, table, width, counts), list(counts)), (("refused", refusal, 0), [7, 8, 9])
+    for places in (0, 13, 2**32 + 1, 2**64 - 1):
+        yield f"a load of {places} places", proved.answered(calls.load, 5, places), ("refused", 8, 0)
 
 
 def beyond():
@@ -1219,7 +1226,7 @@ def beyond():
     for value in (-1, 2**64, 2**64 + 1, -2**63, 2**65 + 12):
         asked = [
             (calls.delay, CHAIN_A, value), (calls.age, CHAIN_A, value), (calls.windows, CHAIN_A, value, 3), (calls.windows, CHAIN_A, 5, value),
-            (calls.sections, CHAIN_A, [value]), (calls.sections, CHAIN_A, [1, value]),
+            (calls.sections, CHAIN_A, [value]), (calls.sections, CHAIN_A, [1, value]), (calls.load, value, 3), (calls.load, 5, value),
             (calls.read_table, TABLE_A, value), (calls.exceedance, TABLE_A, value), (calls.histogram, TABLE_A, value, array("Q", bytes(8))),
             (calls.make_table, CHAIN_A, value, array("Q", bytes(8)), array("Q", bytes(8))), (calls.chain_of_schedule, SCHEDULE_A, value),
             (calls.bookings, SCHEDULE_A, value, 1, 5), (calls.bookings, SCHEDULE_A, 1, value, 5),
@@ -1274,6 +1281,10 @@ BREACHES = [
     ("mo_chain_of_schedule", calls.chain_of_schedule, (SCHEDULE_A, 1), leaves(0, [4, 4, 0, 5], [1])), ("mo_chain_of_schedule", calls.chain_of_schedule, (SCHEDULE_A, 1), leaves(16, [], [1])),
     ("mo_sections", calls.sections, (CHAIN_A, [1]), leaves(0, [8, 12, 1], [2], [20])), ("mo_sections", calls.sections, (CHAIN_A, [1]), leaves(0, [8], [1], [8])),
     ("mo_sections", calls.sections, (CHAIN_A, [1]), leaves(0, [8, 12], [2], None)), ("mo_sections", calls.sections, (CHAIN_A, [2]), leaves(17, [], [1], [])),
+    ("mo_load", calls.load, (5, 1), leaves(0, None)), ("mo_load", calls.load, (5, 1), leaves(0, [2500, 2500, 307, *[UNWRITTEN] * 33])), ("mo_load", calls.load, (5, 12), leaves(0, [2500] * 35 + [UNWRITTEN])),
+    ("mo_load", calls.load, (5, 1), leaves(0, [2500, 2500, 307, 1])), ("mo_load", calls.load, (5, 11), leaves(0, [2500] * 35 + [1])), ("mo_load", calls.load, (5, 11), leaves(0, [2500] * 35)),
+    ("mo_load", calls.load, (5, 13), leaves(8, None)), ("mo_load", calls.load, (5, 13), leaves(8, [0] * 35 + [1])), ("mo_load", calls.load, (5, 13), leaves(8, [2500])), ("mo_load", calls.load, (5, 13), leaves(0, [2500] * 36)),
+    ("mo_load", calls.load, (5, 0), leaves(8, None)), ("mo_load", calls.load, (5, 0), leaves(8, [2500])),
     ("mo_bookings", calls.bookings, (SCHEDULE_A, 1, 2, 0), leaves(16, [0, 0, 0, 1])), ("mo_report", calls.report, (FILE_A, bytearray(9)), leaves(0, None)),
 ]
 

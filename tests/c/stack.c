@@ -99,6 +99,7 @@ static void exceedance(void) { mo_exceedance(starts, 1024, latencies, 1024, figu
 static void windows(void) { mo_windows(tasks, 36, 12, gap, 48235600, 100, &a, &b); }
 /* Two sections of six places, so that partitions are stepped to. */
 static void sections(void) { mo_sections(tasks, 36, 12, gap, (const uint64_t[]){ 6 }, 1, jobs, &a, &b); }
+static void load(void) { a = mo_load(1234567890123456789u, 12, flat); }
 static void read_file(void) { mo_read_file(file, file_length, numbered, chains, places, counts); }
 static void write_file(void) { mo_write_file(numbered, 128, 32, chains, 48, places, 4, 4, gap, text, sizeof text, &a); }
 static void chain_of_schedule(void) { mo_chain_of_schedule(numbered, 128, 32, chains, 48, places, 4, 4, gap, 4, flat, &b); }
@@ -145,6 +146,8 @@ int main(void)
     expect("some jobs miss, and no 100 in a row", a > 0 && a < 100, 1);
     held("mo_sections", sections, MO_STACK_SECTIONS);
     expect("two sections", a, 2);
+    held("mo_load", load, MO_STACK_LOAD);
+    expect("a load, and not a refusal", a == 0 && flat[33] > 0, 1);
     held("mo_read_file", read_file, MO_STACK_READ_FILE);
     expect("the gap that was read", counts[2], gap);
     held("mo_write_file", write_file, MO_STACK_WRITE_FILE);
