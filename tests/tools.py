@@ -1284,7 +1284,7 @@ BREACHES = [
     ("mo_load", calls.load, (5, 1), leaves(0, None)), ("mo_load", calls.load, (5, 1), leaves(0, [2500, 2500, 307, *[UNWRITTEN] * 33])), ("mo_load", calls.load, (5, 12), leaves(0, [2500] * 35 + [UNWRITTEN])),
     ("mo_load", calls.load, (5, 1), leaves(0, [2500, 2500, 307, 1])), ("mo_load", calls.load, (5, 11), leaves(0, [2500] * 35 + [1])), ("mo_load", calls.load, (5, 11), leaves(0, [2500] * 35)),
     ("mo_load", calls.load, (5, 13), leaves(8, None)), ("mo_load", calls.load, (5, 13), leaves(8, [0] * 35 + [1])), ("mo_load", calls.load, (5, 13), leaves(8, [2500])), ("mo_load", calls.load, (5, 13), leaves(0, [2500] * 36)),
-    ("mo_load", calls.load, (5, 0), leaves(8, None)), ("mo_load", calls.load, (5, 0), leaves(8, [2500])),
+    ("mo_load", calls.load, (5, 0), leaves(8, None)), ("mo_load", calls.load, (5, 0), leaves(8, [2500])), ("mo_load", calls.load, (5, 0), leaves(0, [])),
     ("mo_bookings", calls.bookings, (SCHEDULE_A, 1, 2, 0), leaves(16, [0, 0, 0, 1])), ("mo_report", calls.report, (FILE_A, bytearray(9)), leaves(0, None)),
 ]
 

@@ -189,7 +189,7 @@ def load(seed: int, places: int) -> Chain:
     flat = answers(3 * ROW)
     code = library.load().mo_load(number(seed), number(places), flat)
     _sound(code, list(flat), "chain")
-    if places > ROW or any(flat[3 * places:]):
+    if not 1 <= places <= ROW or any(flat[3 * places:]):
         raise Broken(f"the chain of {places} places is {list(flat)}")
     return Chain(flat[:3 * places], places, 0)
 
