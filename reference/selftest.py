@@ -4282,7 +4282,7 @@ def group_draws_by_hand(_rng):
     same(number_of_bits(STEP_BITS), STEP, "the step's bits")
     # It is the whole part of 2^64 by the golden ratio, (root of 5 + 1) / 2.
     same((math.isqrt(5 * 2 ** 128) - 2 ** 64) // 2, STEP, "golden ratio")
-    # Values of the plan.
+    # Worked out beforehand, by another way.
     same(["%016X" % number for number in ref.draws(0, 3)],
          ["9E3779B843248F67", "3C6EF37286491ECF", "DAA66D2DC893AE67"],
          "seed 0")
@@ -4422,7 +4422,7 @@ def group_load_phases(rng):
 
 
 def group_loads_by_hand(_rng):
-    # Seed, places, and (period, phase) of the first ones; of the plan.
+    # Seed, places, and (period, phase) of the first ones, worked out beforehand.
     cases = [
         (0, 3, [(10_000, 8_591), (10_000, 7_183), (40_000, 26_767)]),
         (1, 2, [(10_000, 8_590), (20_000, 17_182)]),
