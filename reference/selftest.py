@@ -4422,7 +4422,7 @@ def group_load_phases(rng):
 
 
 def group_loads_by_hand(_rng):
-    # Seed, places, and (period, phase) of the first ones, worked out beforehand.
+    # Seed, places, and (period, phase) of the first ones, known beforehand.
     cases = [
         (0, 3, [(10_000, 8_591), (10_000, 7_183), (40_000, 26_767)]),
         (1, 2, [(10_000, 8_590), (20_000, 17_182)]),
