@@ -18,7 +18,6 @@ use Rattle.schedule.specs.declared.NumberedTask.{NumberedTask}
 use Rattle.schedule.specs.declared.Route.{Route}
 use Rattle.schedule.specs.declared.Schedule.{Schedule}
 use Rattle.schedule.specs.Schedules.{numberOf, tasksIn, placesOf, routesIn, chainsIn, taskRule, known, taskNumbered, padded, chainOf, routeNumbered, chainAt, zeroNumbered, routeOf, scheduleOf}
-use Rattle.schedule.specs.Arrays.{Arrays}
 use Rattle.schedule.specs.Padding.{take-padded}
 use Rattle.schedule_checks.specs.Checks.{firstFault, firstUnknown}
 use Rattle.schedule_checks.specs.SoundSchedule.{SoundSchedule}
@@ -27,7 +26,7 @@ use Rattle.file_writer.specs.FileBytes.{chainBytes, chainsBytes, gapBytes, file
 use Rattle.file_writer.specs.Lengths.{length-chain, length-file}
 use Rattle.round_trip.specs.Right.{no-chain, one-more, Right}
 use Rattle.round_trip.specs.ReadAfterWrite.{read-of-file}
-use Rattle.round_trip.specs.RoundTrips.{routes-front, routes-back, right-sound, right-arrays}
+use Rattle.round_trip.specs.RoundTrips.{routes-front, routes-back, right-sound}
 use Rattle.load.specs.declared.Load.{Load}
 use Rattle.load.specs.Load.{taskOf, drawnTask, tasksFrom, loadOf}
 use Rattle.load.specs.Passes as passes
@@ -119,9 +118,6 @@ module _ (seed places : ℕ) (low : 1 ≤ places) (high : places ≤ 12) where
 
   pub sound-load : SoundSchedule (aloneOf (loadOf seed places .chain))
   sound-load = rw alone (right-sound ts (ch ∷ []) 0 right)
-
-  pub load-arrays : Arrays (aloneOf (loadOf seed places .chain))
-  load-arrays = rw alone (right-arrays ts (ch ∷ []) 0 right)
 
   -- its file
   spelt : loadFile seed places ≡ fileOf ts (ch ∷ []) 0

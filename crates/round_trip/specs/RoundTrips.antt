@@ -103,7 +103,7 @@ right-sound ts chs g r = record {
 }
 
 -- and its arrays have their lengths.
-pub right-arrays : (ts : List NumberedTask) (chs : List (List ℕ)) (g : ℕ) → Right ts chs g → Arrays (scheduleOf ts chs g)
+right-arrays : (ts : List NumberedTask) (chs : List (List ℕ)) (g : ℕ) → Right ts chs g → Arrays (scheduleOf ts chs g)
 right-arrays ts chs g r = record {
   tasks = length-padded zeroNumbered 32 ts (r .few);
   routes = length-padded emptyRoute 4 (map routeOf chs) (omega (arith, length-map chs routeOf, r .few-chains));
