@@ -288,7 +288,7 @@ pub fn all() -> Vec<Case> {
     // Wat19-C1 and Wat19-C3 of docs/CASE-STUDIES.md.
     let published = [33_000, 400_000, 15_000, 15_000, 5_000];
     let beside = [10_000, 15_000, 15_000, 5_000];
-    // Seed and places of the loads. That of 42 begins with the shortest period, and all but one have the longest.
+    // Seed and places of the loads. Those of 42 begin with the shortest period, and all have the longest.
     let loads = [(42, 4), (7, 12), (42, 12), (2026, 12)];
     let mut cases: Vec<Case> = [2, 4, 8, 12].iter().map(|&n| making("harmonic", chain_of(&doubling(250, n), 0))).collect();
     cases.push(making("published", chain_of(&published, 0)));
