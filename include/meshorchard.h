@@ -32,7 +32,7 @@
  *
  * Time. mo_read_table and the figures take one to three passes over the g anchors; mo_histogram two over the anchors, with two divisions for
  * each of them, and two over its list, however wide the entries are and however long h is; mo_check, mo_warm_up, mo_delay and mo_age a few
- * over the places, and so does mo_load, with two divisions at each; the calls on files one over the bytes.
+ * over the places, and so does mo_load, with one division at each; the calls on files one over the bytes.
  * mo_make_table walks h / T partitions, T being the period at the place of the cut, and a partition costs each place once: with h 60,000,000
  * and twelve places 0.015 ms where the longest period, 78,125, is cut at, and 0.9 s at a place of period 1. Cut at the longest period no
  * chain has more than 3,063,060 partitions, which take 0.05 s at twelve places. The call divides only before the second partition, some 90

@@ -8,6 +8,7 @@ use mathlib.Core.List.{List}
 use lib.Dec.{eqb}
 use lib.ListN.{length, take}
 use borrow.Author.Tests.{eq-eqb, eqb-true}
+use Rattle.schedule.specs.Schedules.{padded}
 use Rattle.schedule.specs.Padding.{take-padded, length-padded}
 use Rattle.load.specs.declared.Load.{Load}
 use Rattle.load.specs.Load.{loadOf}
@@ -28,11 +29,9 @@ pub record Fits (a : Answer) : Type 0 where
   pub short : a .long ≤ 256
   pub whole : length (a .bytes) ≡ 256
 
-told-fits : (line : List ℕ) → length line ≤ 256 → Fits (told line)
-told-fits line h = record { short = h; whole = length-padded 0 256 line h }
-
-given-fits : (file : List ℕ) → length file ≤ 256 → Fits (given file)
-given-fits file h = record { short = h; whole = length-padded 0 256 file h }
+-- a line or a file of at most 256 bytes
+fits : (made : Bool) (text : List ℕ) → length text ≤ 256 → Fits (record { made = made; long = length text; bytes = padded 256 0 text })
+fits made text h = record { short = h; whole = length-padded 0 256 text h }
 
 -- the file of places inside their limits has at most 248 bytes
 file-short : (seed places : ℕ) → loadOf seed places .refusal .number ≡ 0 → length (loadFile seed places) ≤ 248
@@ -45,18 +44,18 @@ unfolding fileAnswer
 file-fits seed places = go (eqb (loadOf seed places .refusal .number) 0) refl
   where
     go : (b : Bool) → eqb (loadOf seed places .refusal .number) 0 ≡ b → Fits (cond b (given (loadFile seed places)) (told placesLine))
-    go true e = given-fits (loadFile seed places) (omega (arith, file-short seed places (eqb-true (loadOf seed places .refusal .number) 0 e)))
-    go false e = told-fits placesLine (omega arith)
+    go true e = fits true (loadFile seed places) (omega (arith, file-short seed places (eqb-true (loadOf seed places .refusal .number) 0 e)))
+    go false e = fits false placesLine (omega arith)
 
 places-fit : (seed : ℕ) (x : Number) → Fits (afterPlaces seed x)
 unfolding afterPlaces
 places-fit seed (Of n) = file-fits seed n
-places-fit seed Wrong = told-fits placesLine (omega arith)
+places-fit seed Wrong = fits false placesLine (omega arith)
 
 seed-fits : (x : Number) (places : List ℕ) → Fits (afterSeed x places)
 unfolding afterSeed
 seed-fits (Of n) places = places-fit n (numberOf places)
-seed-fits Wrong places = told-fits seedLine (omega arith)
+seed-fits Wrong places = fits false seedLine (omega arith)
 
 pub answer-fits : (count : ℕ) (seed places : List ℕ) → Fits (answerTo count seed places)
 unfolding answerTo
@@ -64,7 +63,7 @@ answer-fits count seed places = go (eqb count 3)
   where
     go : (b : Bool) → Fits (cond b (afterSeed (numberOf seed) places) (told wordsLine))
     go true = seed-fits (numberOf seed) places
-    go false = told-fits wordsLine (omega arith)
+    go false = fits false wordsLine (omega arith)
 
 -- ---- every seed, and the same bytes
 
