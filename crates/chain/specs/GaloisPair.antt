@@ -47,16 +47,16 @@ module _ (f b : ℕ → ℕ) (gal : (j n : ℕ) → (f j < n) ↔ (j < b n)) whe
       | no h ↦ let u = gal (suc w) (suc (f 0)) .0 (omega arith) in omega (arith, is)
     ]
 
-    -- where b repeats by p for a step of q, so does f after w
-    pub f-period : (p q : ℕ) → ((n : ℕ) → 0 < b n → b (n + q) ≡ b n + p) → (j : ℕ) → w < j → f (j + p) ≡ f j + q
-    f-period p q per j l =
+    -- where another pair, f′ and b′, counts back p more from a step of q on, its way forward is q later from p on, after w
+    pub f-later : (f′ b′ : ℕ → ℕ) → ((j n : ℕ) → (f′ j < n) ↔ (j < b′ n)) → (p q : ℕ) → ((n : ℕ) → 0 < b n → b′ (n + q) ≡ b n + p) → (j : ℕ) → w < j → f′ (j + p) ≡ f j + q
+    f-later f′ b′ gal′ p q per j l =
         let a : f (suc w) ≤ f j = f-mono (suc w) j l in
         let up : j < b (suc (f j)) = gal j (suc (f j)) .0 (omega arith) in
-        let u : f (j + p) < suc (f j) + q = gal (j + p) (suc (f j) + q) .1 (omega (arith, per (suc (f j)) (omega arith))) in
+        let u : f′ (j + p) < suc (f j) + q = gal′ (j + p) (suc (f j) + q) .1 (omega (arith, per (suc (f j)) (omega arith))) in
         let pos : 0 < b (f j) = gal 0 (f j) .0 (omega (arith, warm-next)) in
-        elim (decLt (f (j + p)) (f j + q)) [
+        elim (decLt (f′ (j + p)) (f j + q)) [
           | yes h ↦
-              let x : j + p < b (f j + q) = gal (j + p) (f j + q) .0 h in
+              let x : j + p < b′ (f j + q) = gal′ (j + p) (f j + q) .0 h in
               let y : f j < f j = gal j (f j) .1 (omega (arith, per (f j) pos)) in
               omega arith
           | no h ↦ omega arith

@@ -1,2 +1,3 @@
 pub mod Divisor
 pub mod LeastMultiple
+pub mod Combination

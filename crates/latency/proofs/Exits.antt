@@ -1,4 +1,4 @@
--- What the walk over the whole range of a chain answers.
+-- What the walk over the whole range of a chain answers, from the warm-up job on or round from any job.
 use Prim.Native.Nat.{ℕ, _/_}
 use native.Mathlib.Omega.{arith}
 use native.Mathlib.Decide.{decLe}
@@ -17,7 +17,8 @@ use Rattle.latency.specs.declared.Greatest.{Greatest}
 use Rattle.latency.specs.Latency.{greatestLatency, latencyOf, AcceptedAt, greatestAt}
 use Rattle.latency.specs.GreatestDelay.{greatest-fits}
 use Rattle.latency.specs.AnyCut.{any-cut}
-use Rattle.latency.specs.Walk.{Met, MetAll}
+use Rattle.latency.specs.AnyRange.{any-range}
+use Rattle.latency.specs.Walk.{Met, MetAll, Round, MetRound}
 
 module _ (l : List Place) (p h : ℕ) (k : AcceptedAt l p h) where
   module _ (m n : ℕ) (w : m ≡ warmAt l p) (u : n ≡ h / at l p .period) where
@@ -51,3 +52,9 @@ module _ (l : List Place) (p h : ℕ) (k : AcceptedAt l p h) where
     | yes few ↦ ap (λ (x : Greatest). leb (x .latency) bound) (met .whole few)
     | no more ↦ lt-leb (r .latency) bound (omega arith) ∙ sym (lt-leb (greatestLatency l) bound (met .late (omega arith)))
   ]
+
+pub met-round : (l : List Place) (places p m n bound : ℕ) (r : Greatest) → Round l places p m n → Met l p m n bound r → MetRound l n bound r
+met-round l places p m n bound r k met =
+    let e : largest (latencyOf l p) m n ≡ greatestLatency l
+    = ap (largest (latencyOf l p) m) (k .whole) ∙ any-range l (k .range .sound) p (omega (arith, k .range .inside, k .range .places-are)) m (k .range .warm) in
+    record { whole = λ few. met .whole few .0 ∙ e; late = λ more. omega (arith, met .late more); some = met .some; few = met .few }

@@ -38,11 +38,11 @@ module _ (t : List Place) (places p m n : ℕ) (w : Range t places p m n) where
     met-all state walked latency k all =
         let e : walked ≡ n = omega (arith, k .high) in
         let f : latency ≡ largest (latencyOf t p) m n = k .is ∙ ap (largest (latencyOf t p) m) e in
-        record { whole = λ h. (f, e); late = λ h. omega arith }
+        record { whole = λ h. (f, e); late = λ h. omega arith; some = k .low; few = k .high }
 
     pub met-late : (state : List ℕ) (walked latency : ℕ) → Walking t p n m state walked latency → bound < latency → Met t p m n bound (record { latency = latency; walked = walked })
     met-late state walked latency k over =
-        record { whole = λ h. absurd (omega arith); late = λ h. omega (arith, k .is, largest-some (latencyOf t p) walked n m (k .high)) }
+        record { whole = λ h. absurd (omega arith); late = λ h. omega (arith, k .is, largest-some (latencyOf t p) walked n m (k .high)); some = k .low; few = k .high }
 
   -- the first partition
   pub walking-start : (state : List ℕ) (x : Partition) → IsPartition t p m x → Standing t p m state → (latency : ℕ) → latency ≡ x .end .0 - x .start .0 → Walking t p n m state 1 latency

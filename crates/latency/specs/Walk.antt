@@ -1,8 +1,10 @@
 -- What a walk over partitions with a bound begins with, and what it answers: the first latency above the bound ends it.
-use Prim.Native.Nat.{ℕ, _≤_, _<_}
+use Prim.Native.Nat.{ℕ, _/_, _≤_, _<_}
 use mathlib.Core.Path.{_≡_}
 use mathlib.Core.List.{List}
 use Rattle.task.specs.declared.Place.{Place}
+use Rattle.chain.specs.Chains.{at}
+use Rattle.chain.specs.Hyperperiod.{hyperOf}
 use Rattle.ranges.specs.Largest.{largest}
 use Rattle.partition.specs.declared.Partition.{Partition}
 use Rattle.partition.specs.Partitions.{IsPartition}
@@ -17,10 +19,24 @@ pub record Begins (t : List Place) (places p n : ℕ) (x : Partition) (state : L
   pub is : IsPartition t p (x .job .0) x
   pub stands : Standing t p (x .job .0) state
 
--- Of the n partitions from m on: an answer that keeps the bound is the largest latency, and all were walked; one above it says that the largest is.
+-- Of the n partitions from m on: an answer that keeps the bound is the largest latency, and all were walked; one above it says that the largest is. At least one was walked, and no more than there are.
 pub record Met (t : List Place) (p m n bound : ℕ) (r : Greatest) : Type 0 where
   pub whole : r .latency ≤ bound → (r .latency ≡ largest (latencyOf t p) m n) × (r .walked ≡ n)
   pub late : bound < r .latency → bound < largest (latencyOf t p) m n
+  pub some : 1 ≤ r .walked
+  pub few : r .walked ≤ n
+
+-- As many partitions as the range of a chain has, from any job m of place p that is not before the warm-up job; that their largest latency is the greatest one too is `any-range` in AnyRange.
+pub record Round (l : List Place) (places p m n : ℕ) : Type 0 where
+  pub range : Range l places p m n
+  pub whole : n ≡ hyperOf l / at l p .period
+
+-- What the walk round them answers: a latency that keeps the bound is the greatest one, one above it says that the greatest is.
+pub record MetRound (l : List Place) (n bound : ℕ) (r : Greatest) : Type 0 where
+  pub whole : r .latency ≤ bound → r .latency ≡ greatestLatency l
+  pub late : bound < r .latency → bound < greatestLatency l
+  pub some : 1 ≤ r .walked
+  pub few : r .walked ≤ n
 
 -- The same of the whole range of a chain whose hyperperiod is h.
 pub record MetAll (l : List Place) (p h bound : ℕ) (r : Greatest) : Type 0 where

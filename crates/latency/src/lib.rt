@@ -14,7 +14,7 @@ ghost use Rattle.stepping.specs.Standing.{Reciprocals};
 ghost use Rattle.outset.specs.Range.{Range};
 ghost use Rattle.latency.specs.LongestPlace.{longestPlace};
 ghost use Rattle.latency.specs.Latency.{greatestLatency, AcceptedAt, greatestAt};
-ghost use Rattle.latency.specs.Walk.{Begins, Met, MetAll};
+ghost use Rattle.latency.specs.Walk.{Begins, Met, MetAll, Round, MetRound};
 
 // The greatest latency, and the number of partitions that were walked for it.
 pub struct Greatest {
@@ -139,6 +139,36 @@ fn walk_range(tasks: &[u64], gap: u64, p: usize, h: u64, bound: u64) -> Greatest
     let from = jobs[p];
     let t = chain::task_at(tasks, gap, p);
     walk_from(tasks, gap, tasks.len() / 3, p, from, h / t.period, bound)
+}
+
+// Walks as many partitions as the range has, from any job of place p on that is not before its warm-up job; the first one above the bound ends the walk. What stands for the divisions of the steps is
+// lent, so that lists with the same periods share it.
+pub fn walk_round(
+    tasks: &[u64],
+    gap: u64,
+    places: usize,
+    p: usize,
+    from: Job,
+    n: u64,
+    bound: u64,
+    reciprocals: &[u64],
+) -> Greatest
+    requires { ⌜ (Round (tasksIn gap (now tasks)) places p (from .0) n) × Reciprocals (tasksIn gap (now tasks)) (now reciprocals) ⌝ }
+    ensures { λ r. ⌜ MetRound (tasksIn gap (now (tasks .entry))) n bound r ⌝ }
+{
+    let mut state = [0u64; 24];
+    let first = outset::first(tasks, gap, places, p, from, &mut state);
+    walk(
+        tasks,
+        gap,
+        places,
+        p,
+        n,
+        bound,
+        first,
+        reciprocals,
+        &mut state,
+    )
 }
 
 // The greatest latency of an accepted list whose hyperperiod is h, walked at place p; it is the same for every p. No latency is above 60,011,000, so that bound never ends the walk.

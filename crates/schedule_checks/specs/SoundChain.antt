@@ -62,22 +62,22 @@ module _ (s : Schedule) (a : Arrays s) (k : SoundSchedule s) (n : ℕ) (some : 1
   in-front : getD (routesIn s) (n - 1) noRoute ≡ route
   in-front = getD-take (s .chains) (s .routes) (n - 1) noRoute (omega arith) ∙ sym is-there
 
-  twelve : length (route .places) ≡ 12
-  twelve = rw is-there (a .places (n - 1) (omega (arith, k .few-chains)))
+  pub sound-route : length (route .places) ≡ 12
+  sound-route = rw is-there (a .places (n - 1) (omega (arith, k .few-chains)))
 
   -- it has an array of twelve tasks,
   pub sound-twelve : length (chainAt s n .tasks) ≡ 12
-  sound-twelve = chain-twelve (s .gap) (tasksIn s) route twelve
+  sound-twelve = chain-twelve (s .gap) (tasksIn s) route sound-route
 
   -- 1 to 12 places,
   pub sound-placed : (1 ≤ route .count) × (route .count ≤ 12)
   sound-placed = rw is-there (placed-front (s .routes) (s .chains) (omega (arith, a .routes, k .few-chains)) (k .placed) (n - 1) (omega arith))
 
   pub sound-length : length (tasksOf (chainAt s n)) ≡ route .count
-  sound-length = chain-length (s .gap) (tasksIn s) route twelve (sound-placed .1)
+  sound-length = chain-length (s .gap) (tasksIn s) route sound-route (sound-placed .1)
 
   -- each with a known number,
-  sound-known : firstUnknown 1 (map numberOf (tasksIn s)) (placesOf route) ≡ 0
+  pub sound-known : firstUnknown 1 (map numberOf (tasksIn s)) (placesOf route) ≡ 0
   sound-known =
       let e = known-at (map numberOf (tasksIn s)) (chainsIn s) (k .places-known) (n - 1) (rw (length-map (routesIn s) placesOf) in-range) in
       ap (firstUnknown 1 (map numberOf (tasksIn s))) (sym (List·getD-map placesOf (routesIn s) (n - 1) noRoute ∙ ap placesOf in-front)) ∙ e
@@ -86,5 +86,5 @@ module _ (s : Schedule) (a : Arrays s) (k : SoundSchedule s) (n : ℕ) (some : 1
   pub sound-chain : verdictOf (chainAt s n) ≡ hyperVerdict (tasksOf (chainAt s n))
   sound-chain =
       let p = sound-placed in
-      let e = ap (checks.firstFault 1) (chain-tasks (s .gap) (tasksIn s) route twelve (p .1)) ∙ chain-right (tasksIn s) (placesOf route) 1 1 (omega arith) (k .tasks-right) sound-known in
+      let e = ap (checks.firstFault 1) (chain-tasks (s .gap) (tasksIn s) route sound-route (p .1)) ∙ chain-right (tasksIn s) (placesOf route) 1 1 (omega arith) (k .tasks-right) sound-known in
       sym (check-hyper (route .count) (s .gap) (givenOf (chainAt s n)) (p .0) (p .1) (sym e) (k .permitted))

@@ -72,11 +72,11 @@ module _ (l : List Place) (ok : Sound l) (p : ℕ) (h : p < length l) where
       rw z at f
 
   module _ (m : ℕ) (g : warmAt l p ≤ m) where
-    back-gains : (i : ℕ) → i ≤ p → backJob l p (m + hyperOf l / at l p .period) i ≡ backJob l p m i + hyperOf l / at l i .period
+    pub back-gains : (i : ℕ) → i ≤ p → backJob l p (m + hyperOf l / at l p .period) i ≡ backJob l p m i + hyperOf l / at l i .period
     back-gains i u = ap jobOf (later i p u h m (backJob l p m i) (back-is l ok p h m g i u))
 
     -- forward: the ways back from the job f at which the way on ends, and from the one before it, say where the later way on ends
-    on-gains : (i : ℕ) → p ≤ i → i < length l → onJob l p (m + hyperOf l / at l p .period) i ≡ onJob l p m i + hyperOf l / at l i .period
+    pub on-gains : (i : ℕ) → p ≤ i → i < length l → onJob l p (m + hyperOf l / at l p .period) i ≡ onJob l p m i + hyperOf l / at l i .period
     on-gains i u v =
         let P : ℕ = hyperOf l / at l p .period in
         let Q : ℕ = hyperOf l / at l i .period in

@@ -2,9 +2,9 @@
 -- What stands above a link uses the laws under "one link" alone.
 use Prim.Native.Nat.{ℕ, zero, suc, _+_, _-_, _*_, _/_, _≤_, _<_}
 use native.Mathlib.Omega.{arith}
-use native.Mathlib.Nat.{le-div-iff-mul-le, div-lt-iff-lt-mul, lt-div-mul-add, div-mul-le-self, add-mul-div-right, mul-le-mul-right, mul-le-mul-left, suc-mul, mul-one}
+use native.Mathlib.Nat.{le-div-iff-mul-le, div-lt-iff-lt-mul, lt-div-mul-add, div-mul-le-self, add-mul-div-right, mul-le-mul-right, mul-le-mul-left, suc-mul, mul-one, add-mul}
 use native.Mathlib.Decide.{decLe}
-use mathlib.Core.Path.{_≡_, refl, ap}
+use mathlib.Core.Path.{_≡_, refl, ap, _∙_}
 use mathlib.Core.Logic.{_↔_}
 use mathlib.Core.Bool.{Bool, true, false, cond, _&&_}
 use lib.Dec.{leb}
@@ -99,13 +99,6 @@ module _ (b : Place) (pos : 1 ≤ b .period) where
       let u = le-div-iff-mul-le {x = 1} pos .0 h in
       omega (arith, u, div-mul-le-self (w - b .phase + (b .period - 1)) (b .period))
 
-  -- q periods later the earliest job is q later, from the phase on
-  pub earliest-period : (q w : ℕ) → b .phase ≤ w → earliestFrom b (w + q * b .period) ≡ earliestFrom b w + q
-  unfolding earliestFrom
-  earliest-period q w h =
-      let s : w + q * b .period - b .phase + (b .period - 1) ≡ w - b .phase + (b .period - 1) + q * b .period = omega arith in
-      rw s (add-mul-div-right (w - b .phase + (b .period - 1)) q pos)
-
 -- ---- the latest job
 
 -- There is a latest job, and it is not before j.
@@ -130,20 +123,6 @@ module _ (a : Place) (pos : 1 ≤ a .period) where
   -- So the latest job that writes at or before z is not before j exactly when job j writes at or before z.
   pub latest-is : (z j : ℕ) → (writeOf a j ≤ z) ↔ AtLeast (latestBy a z) j
   latest-is z j = latest-over (a .duration) z j
-
-  -- p periods later the latest job is p later
-  latest-period : (d p z : ℕ) (j : Job) → latestOver a d z ≡ Of j → latestOver a d (z + p * a .period) ≡ Of (record { 0 = j .0 + p })
-  unfolding latestOver
-  latest-period d p z j e = go (leb (a .phase + d) z) refl e
-    where
-      go : (t : Bool) → leb (a .phase + d) z ≡ t → cond t (Of (record { 0 = (z - (a .phase + d)) / a .period })) Nothing ≡ Of j
-          → cond (leb (a .phase + d) (z + p * a .period)) (Of (record { 0 = (z + p * a .period - (a .phase + d)) / a .period })) Nothing ≡ Of (record { 0 = j .0 + p })
-      go true t h =
-          let s : a .phase + d ≤ z = leb-true _ _ t in
-          let i : _≡_ {A = Job} (record { 0 = (z - (a .phase + d)) / a .period }) j = cc in
-          let f : z + p * a .period - (a .phase + d) ≡ z - (a .phase + d) + p * a .period = omega arith in
-          rw (le-leb (a .phase + d) (z + p * a .period) (omega arith), f, add-mul-div-right (z - (a .phase + d)) p pos, ap (λ (x : Job). x .0) i)
-      go false t h = absurd (let y : _≡_ {A = ℕ} 0 1 = cc in omega arith)
 
 -- ---- one link, from place a to the next place, b
 
@@ -189,10 +168,49 @@ module _ (a b : Place) where
   pub backward-earlier : 1 ≤ a .period → (k : ℕ) (j : Job) → backwardLink a b k ≡ Of j → readableOf a (j .0) ≤ readOf b k
   backward-earlier pos k j e = link-backward pos (j .0) k .1 (rw e (omega arith))
 
-  -- Backward repeats where the periods fit the same number of ticks: q jobs later it is p jobs later.
-  pub backward-period : 1 ≤ a .period → (p q : ℕ) → p * a .period ≡ q * b .period → (k : ℕ) (j : Job) → backwardLink a b k ≡ Of j
-      → backwardLink a b (k + q) ≡ Of (record { 0 = j .0 + p })
-  unfolding backwardLink
-  backward-period pos p q same k j e =
-      let s : readOf b (k + q) ≡ readOf b k + p * a .period = omega arith in
-      rw s (latest-period a pos (a .duration + a .gap) p (readOf b k) j e)
+-- ---- the same place at another time
+
+-- Place b reads and writes x ticks later than place a does q jobs before.
+pub record Later (a b : Place) (x q : ℕ) : Type 0 where
+  pub period : b .period ≡ a .period
+  pub duration : b .duration ≡ a .duration
+  pub gap : b .gap ≡ a .gap
+  pub phase : b .phase + q * a .period ≡ a .phase + x
+
+-- every place does so with itself, q periods later
+pub periods-later : (a : Place) (x q : ℕ) → q * a .period ≡ x → Later a a x q
+periods-later a x q e = record { period = refl; duration = refl; gap = refl; phase = omega arith }
+
+module _ (a b : Place) (x q : ℕ) (s : Later a b x q) where
+  pub read-later : (j : ℕ) → readOf b (j + q) ≡ readOf a j + x
+  read-later j = omega (arith, s .phase, ap (λ (T : ℕ). (j + q) * T) (s .period), add-mul j q (a .period))
+
+  module _ (pos : 1 ≤ a .period) where
+    -- x ticks later the earliest job is q later, from the phase on,
+    pub earliest-later : (w : ℕ) → a .phase ≤ w → earliestFrom b (w + x) ≡ earliestFrom a w + q
+    unfolding earliestFrom
+    earliest-later w h =
+        let f : w + x - b .phase + (a .period - 1) ≡ w - a .phase + (a .period - 1) + q * a .period = omega (arith, s .phase) in
+        rw (s .period, f) (add-mul-div-right (w - a .phase + (a .period - 1)) q pos)
+
+    -- and so is the latest.
+    latest-later : (d z : ℕ) (j : Job) → latestOver a d z ≡ Of j → latestOver b d (z + x) ≡ Of (record { 0 = j .0 + q })
+    unfolding latestOver
+    latest-later d z j e = go (leb (a .phase + d) z) refl e
+      where
+        go : (t : Bool) → leb (a .phase + d) z ≡ t → cond t (Of (record { 0 = (z - (a .phase + d)) / a .period })) Nothing ≡ Of j
+            → cond (leb (b .phase + d) (z + x)) (Of (record { 0 = (z + x - (b .phase + d)) / b .period })) Nothing ≡ Of (record { 0 = j .0 + q })
+        go true t h =
+            let u : a .phase + d ≤ z = leb-true _ _ t in
+            let i : _≡_ {A = Job} (record { 0 = (z - (a .phase + d)) / a .period }) j = cc in
+            let f : z + x - (b .phase + d) ≡ z - (a .phase + d) + q * a .period = omega (arith, s .phase) in
+            rw (le-leb (b .phase + d) (z + x) (omega (arith, s .phase)), s .period, f, add-mul-div-right (z - (a .phase + d)) q pos, ap (λ (y : Job). y .0) i)
+        go false t h = absurd (let y : _≡_ {A = ℕ} 0 1 = cc in omega arith)
+
+    -- So is the link backward from a next place that is x ticks later too.
+    pub backward-later : (c d : Place) (r : ℕ) → Later c d x r → (k : ℕ) (j : Job) → backwardLink a c k ≡ Of j → backwardLink b d (k + r) ≡ Of (record { 0 = j .0 + q })
+    unfolding backwardLink
+    backward-later c d r t k j e =
+        let f : readOf d (k + r) ≡ readOf c k + x = omega (arith, t .phase, ap (λ (T : ℕ). (k + r) * T) (t .period), add-mul k r (c .period)) in
+        let g : b .duration + b .gap ≡ a .duration + a .gap = omega (arith, s .duration, s .gap) in
+        ap (λ (y : ℕ). latestOver b y (readOf d (k + r))) g ∙ ap (latestOver b (a .duration + a .gap)) f ∙ latest-later (a .duration + a .gap) (readOf c k) j e

@@ -1,0 +1,5 @@
+pub mod Moving
+pub mod Others
+pub mod Tries
+pub mod AllPhases
+pub mod Entry

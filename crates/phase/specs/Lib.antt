@@ -1,0 +1,9 @@
+pub mod Phases
+pub mod Search
+pub mod MovedTasks
+pub mod AnotherTime
+pub mod PhasesRepeat
+pub mod InList
+pub mod MovedSchedule
+pub mod Smallest
+pub mod Refusals
