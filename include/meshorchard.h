@@ -21,8 +21,9 @@
  *   libcapi_load.a      mo_load
  *   libcapi_file.a      mo_read_file, mo_write_file, mo_chain_of_schedule
  *   libcapi_bookings.a  mo_bookings
+ *   libcapi_phase.a     mo_smallest_phase
  *   libcapi_report.a    mo_report
- * libcapi_file.a, libcapi_bookings.a and libcapi_report.a need memcpy and memset from the C library, libcapi_maker.a, libcapi_windows.a,
+ * libcapi_file.a, libcapi_bookings.a, libcapi_phase.a and libcapi_report.a need memcpy and memset from the C library, libcapi_maker.a, libcapi_windows.a,
  * libcapi_sections.a, libcapi_histogram.a and libcapi_load.a memset; the other three need nothing (`nm -u` on an archive tells; tests/c/run looks).
  *
  * The archives are for x86-64, in position-independent code that uses its SSE2 registers. The toolchain compiles for no other processor
@@ -44,6 +45,9 @@
  * mo_sections walks, of each section, h / T partitions, h being the section's own hyperperiod and T its longest period, and makes no list.
  * A partition costs each of the section's places once, so however a chain is cut, at most 0.05 s: 3,063,060 partitions of twelve places.
  * Cuts cost nothing: the first that is out of order ends the look at them, so no more than twelve are read.
+ * mo_smallest_phase tries at most as many phases as the greatest common divisor of the task's period and the least common multiple of the other
+ * periods of the chain, and a try ends at the first partition that is longer than the bound. All tries together walk at most h partitions, which
+ * is proved; that many would take 1 s at twelve places. Each try begins where the one before ended, so nearly all end at once: PHASE_TIMES
  * (One run on a server's processor; an instrument's takes longer.) Nothing else that is lent makes a call take long.
  *
  * Stack. What each call needs below its caller's frame, in bytes, is MO_STACK_ below: measured on x86-64 and rounded up, not proved. The C
@@ -75,10 +79,11 @@ extern "C" {
 #define MO_STACK_WRITE_FILE 5248u
 #define MO_STACK_CHAIN_OF_SCHEDULE 7232u
 #define MO_STACK_BOOKINGS 8896u
+#define MO_STACK_SMALLEST_PHASE 8896u
 #define MO_STACK_REPORT 22848u
 
 /*
- * Refusals: the numbers of document 01, and 16, 17 and 18 of orders 1, 6 and 7 in document 02; order 5 there adds the gap to 5.
+ * Refusals: the numbers of document 01, and 16 to 20 of orders 1, 6, 7 and 9 in document 02; order 5 there adds the gap to 5.
  */
 #define MO_FILE_ENDS_EARLY 1u          /* reading a file: fewer than 4 bytes remain, or a record runs past the file */
 #define MO_RECORD_LENGTH_WRONG 2u      /* reading a file: a length below 4, or one that its kind does not have */
@@ -98,6 +103,8 @@ extern "C" {
 #define MO_CHAIN_UNKNOWN 16u           /* a schedule: it has no chain of that number; they count from 1 */
 #define MO_CUTS_NOT_RISING 17u         /* sections: the cuts do not rise strictly, or one is not 1 to places - 1 */
 #define MO_WIDTH_ZERO 18u              /* histogram: the width is 0 */
+#define MO_TASK_NOT_IN_CHAIN 19u       /* smallest phase: no place of the chain has the task */
+#define MO_PERIOD_TOO_LONG 20u         /* smallest phase: the task's period is above 10,000 */
 
 /*
  * Every call but mo_read_table and mo_report answers a code: 0 for a success, else a refusal's number and 256 times its place. The place is
@@ -434,6 +441,29 @@ uint64_t mo_bookings(const uint64_t *tasks, size_t tasks_length, size_t count,
                      const uint64_t *chains, size_t chains_length,
                      const uint64_t *places, size_t places_length, size_t chain_count, uint64_t gap,
                      size_t first, size_t second, uint64_t t, uint64_t figures[4]);
+
+/*
+ * A phase that keeps a promise: of the task with a number, the smallest phase from 0 to its period - 1 with which the greatest latency of chain
+ * `chain`, counted from 1, is at most bound, which may be any number. Every place that the task fills has that phase then, in every chain; only
+ * this chain is looked at. phase becomes it, and none 0; where there is no such phase none becomes 1 and phase 0. What the task's phase is now
+ * does not count, nor need it be below the period.
+ *
+ * With that phase written into its entry of tasks the schedule passes every check that it passed before, no press by that chain waits longer than
+ * bound (mo_delay, from the warm-up tick on), and mo_greatest of the chain's table is at most bound; with every smaller phase some press waits
+ * longer. Phases from the period on add nothing: each is as good as its remainder by the period, so where none is 1 no phase at all keeps the
+ * bound. That is proved (crates/phase, crates/capi_phase).
+ *
+ * Refuses, after the schedule's own refusals, the first that applies, all at place 0:
+ *   MO_CHAIN_UNKNOWN          chain is 0 or above chain_count;
+ *   MO_HYPERPERIOD_TOO_LONG   the chain's hyperperiod is above 60,000,000;
+ *   MO_TASK_NOT_IN_CHAIN      no place of the chain has that number, be it that of a task or not;
+ *   MO_PERIOD_TOO_LONG        the task's period is above 10,000.
+ * A refusal leaves 0 in phase and in none.
+ */
+uint64_t mo_smallest_phase(const uint64_t *tasks, size_t tasks_length, size_t count,
+                           const uint64_t *chains, size_t chains_length,
+                           const uint64_t *places, size_t places_length, size_t chain_count, uint64_t gap,
+                           size_t chain, uint64_t number, uint64_t bound, uint64_t *phase, uint64_t *none);
 
 /*
  * The report of a schedule file: of each chain in turn a line with its number, then its table, made with 1,024 slots and cut at the longest

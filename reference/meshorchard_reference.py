@@ -1,7 +1,7 @@
 """Reference program of Meshorchard: delay tables for chains of
 fixed-duration tasks of cave-survey laser instruments.
 
-It is written from document 01 and orders 1 to 3 and 5 to 8 of document 02
+It is written from document 01 and orders 1 to 3 and 5 to 9 of document 02
 alone and follows their definitions as literally as running time allows.  It
 uses the standard library only.  Order 4 changes no answer.  Only the words
 and lines of chainload, and the task numbers in its file, are not in these
@@ -1120,6 +1120,113 @@ def bookings_of(task_count, tasks, chain_count, chains, gap, first, second,
     if two[0] != "ok":
         return two
     return bookings(one[1], gap, two[1], gap, t)
+
+
+# ---------------------------------------------------------------------------
+# A phase that keeps the promise
+# ---------------------------------------------------------------------------
+
+LONGEST_SEARCHED_PERIOD = 10_000
+
+
+def period_to_search(task_count, tasks, chain_count, chains, gap, n, number):
+    """The period of the task that is to move: ("ok", T), or a refusal.
+
+    Document 02, order 9: "After the chain's checks, a task not in the chain
+    is refused with 19 and a period above 10,000 with 20."  The checks are
+    those of the schedule as it is given, with today's phases: 8, 5, 6, 16,
+    then 7.  The number is any.
+    """
+    chain = chain_of_schedule(task_count, tasks, chain_count, chains, gap, n)
+    if chain[0] != "ok":
+        return chain
+    answer = check_chain(chain[1], gap)
+    if answer[0] != "ok":
+        return answer
+    # 19: a task not in this chain, whether the schedule has it or not.
+    place_count, numbers = chains[n - 1]
+    if number not in numbers[:place_count]:
+        return refused(19)
+    # 20: a period above 10,000, of this task and no other.
+    period, _duration, _phase = chain[1][numbers.index(number)]
+    if period > LONGEST_SEARCHED_PERIOD:
+        return refused(20)
+    return ("ok", period)
+
+
+def chain_with_phase(task_count, tasks, chain_count, chains, gap, n, number,
+                     phase):
+    """Chain n of the schedule in which the task has another phase.
+
+    Document 02, order 9: "Every place filled by that task moves."  So the
+    phase is put into the schedule and the chain is taken from it again.  A
+    task with another number stays, also one that is alike.
+    """
+    replaced = [(one, T, D, phase if one == number else F)
+                for one, T, D, F in tasks[:task_count]]
+    chain = chain_of_schedule(task_count, replaced, chain_count, chains, gap,
+                              n)
+    if chain[0] != "ok":
+        raise AssertionError("another phase is refused")
+    return chain[1]
+
+
+def keeps(tasks, gap, bound):
+    """Whether an accepted chain's greatest latency is at most the bound.
+
+    This is greatest_latency(tasks, gap) <= bound, left at the first
+    partition above the bound.  Partitions that are no anchors decide
+    nothing: one whose next m has the same start ends no later than that
+    next one, and one dropped has the end of the one before it and starts
+    later.  So an anchor has the largest latency of all partitions.
+    """
+    p = longest_period_place(tasks)
+    for m in range_of_m(tasks, gap, p):
+        start, end = partition(tasks, gap, p, m)
+        if end - start > bound:
+            return False
+    return True
+
+
+def smallest_phase_of(task_count, tasks, chain_count, chains, gap, n, number,
+                      bound):
+    """A phase for a bound: ("ok", phase), with None for `none`.
+
+    Document 02, order 9: "the smallest phase from 0 to period - 1 with which
+    the chain's greatest latency is at most the bound, or `none` exactly when
+    there is no such phase."  Refusals 8, 5, 6, 16, 7, 19, 20.  The bound is
+    any 64-bit number.
+    """
+    answer = period_to_search(task_count, tasks, chain_count, chains, gap, n,
+                              number)
+    if answer[0] != "ok":
+        return answer
+    for phase in range(answer[1]):
+        chain = chain_with_phase(task_count, tasks, chain_count, chains, gap,
+                                 n, number, phase)
+        if keeps(chain, gap, bound):
+            return ("ok", phase)
+    return ("ok", None)
+
+
+def latency_at_phases_of(task_count, tasks, chain_count, chains, gap, n,
+                         number):
+    """The chain's greatest latency at each phase: ("ok", latencies).
+
+    Entry f is that of phase f, for phases 0 to period - 1 of the task.
+    Refusals as in smallest_phase_of.  The order does not ask for this list;
+    it is for tests.
+    """
+    answer = period_to_search(task_count, tasks, chain_count, chains, gap, n,
+                              number)
+    if answer[0] != "ok":
+        return answer
+    latencies = []
+    for phase in range(answer[1]):
+        chain = chain_with_phase(task_count, tasks, chain_count, chains, gap,
+                                 n, number, phase)
+        latencies.append(greatest_latency(chain, gap))
+    return ("ok", latencies)
 
 
 # ---------------------------------------------------------------------------

@@ -2028,6 +2028,8 @@ def schedule_faults(rng, choose):
              (expected, [1], [2, 3]), "make")
         same(ref.windows_of(*arguments, n, 0, 0), expected, "windows")
         same(ref.sections_of(*arguments, n, [0]), expected, "sections")
+        same(ref.smallest_phase_of(*arguments, n, 0, 0), expected, "phase")
+        same(ref.latency_at_phases_of(*arguments, n, 0), expected, "phases")
         same(ref.bookings_of(*arguments, n, m, UPPER + 1), expected,
              "bookings")
     same(min(met.values()) > 100, True, "each fault often")
@@ -2086,6 +2088,8 @@ def schedule_analyses(rng, choose):
                      (refusal, [1], [2, 3]), what)
                 same(ref.windows_of(*arguments, n, B, k), refusal, what)
                 same(ref.sections_of(*arguments, n, [0]), refusal, what)
+                same(ref.smallest_phase_of(*arguments, n, 0, B), refusal,
+                     what)
                 for m in range(len(chains) + 2):
                     same(ref.bookings_of(*arguments, n, m, t), refusal, what)
                     same(ref.bookings_of(*arguments, m, n, t), refusal, what)
@@ -4783,6 +4787,644 @@ def group_words(rng):
                      "%r" % words)
 
 
+# ---------------------------------------------------------------------------
+# A phase that keeps the promise, order 9
+# ---------------------------------------------------------------------------
+
+def places_at_phase(tasks, numbers, number, phase):
+    """The places of a chain as (T, D, F); those of the task have the phase.
+
+    The tasks are (number, T, D, F), and numbers is the chain.
+    """
+    places = []
+    for one in numbers:
+        for other, T, D, F in tasks:
+            if other == one:
+                places.append((T, D, phase if one == number else F))
+    return places
+
+
+def latencies_at_phases(tasks, numbers, gap, number, greatest, most=10_000):
+    """The greatest latency at phase 0, at phase 1 and so on, by a method."""
+    period = next(T for one, T, _D, _F in tasks if one == number)
+    return [greatest(places_at_phase(tasks, numbers, number, phase), gap)
+            for phase in range(min(period, most))]
+
+
+def travelled_greatest(tasks, gap):
+    """One more than the greatest age of values that travel tick by tick."""
+    T, D, F = tasks[-1]
+    z0 = F + literal_warm_up(tasks, gap)[-1] * T + D
+    until = z0 + literal_hyperperiod(tasks)
+    seen = flow(tasks, gap, until)
+    return 1 + max(z - seen[z] for z in range(z0, until))
+
+
+def greatest_of_pair(tasks, gap):
+    """The greatest latency of two places, as for sections."""
+    return greatest_of_two(*tasks, gap)
+
+
+def greatest_of_equals(tasks, gap):
+    """The greatest latency where all periods are one, without a walk.
+
+    A press at a read waits a period for the next job.  From write + gap to
+    the next place's read each value waits equally long.
+    """
+    T = tasks[0][0]
+    latency = T + sum(D for _T, D, _F in tasks)
+    for (_T, D, F), (_next_T, _next_D, next_F) in zip(tasks, tasks[1:]):
+        latency += gap + (next_F - F - D - gap) % T
+    return latency
+
+
+def first_at_most(latencies, bound):
+    """The smallest phase whose latency is at most the bound, or None."""
+    fits = {phase for phase, one in enumerate(latencies) if one <= bound}
+    return min(fits) if fits else None
+
+
+def check_phases(arguments, n, number, latencies, what):
+    """Both calls, with every bound at which the answer can change."""
+    same(ref.latency_at_phases_of(*arguments, n, number), ("ok", latencies),
+         what)
+    at = {0, *WIDE}
+    for one in latencies:
+        at |= {one - 1, one, one + 1}
+    for bound in sorted(at):
+        same(ref.smallest_phase_of(*arguments, n, number, bound),
+             ("ok", first_at_most(latencies, bound)),
+             "%s, bound %d" % (what, bound))
+
+
+def group_phases_by_hand(_rng):
+    A = [(1, 4, 4, 0), (2, 6, 6, 0)]
+    A_odd = [(1, 4, 4, 1), (2, 6, 6, 0)]
+    C = [(1, 5, 5, 0), (2, 5, 5, 0)]
+    D = [(5, 10, 2, 0), (6, 10, 1, 95)]
+    threes = [(3, 10, 3, 7), (9, 20, 5, 0)]
+    four = [(1, 4, 1, 0), (2, 6, 2, 0), (3, 6, 3, 1)]
+    four_chains = [[1, 2], [2], [2, 3], [2, 2]]
+    # Tasks, chains, gap, chain number, task number, the latencies at phases
+    # 0, 1, ..., and bounds with their phases.
+    cases = [
+        # Writes of task 1 are multiples of 4.  At an even phase of task 2 a
+        # value waits up to 4 ticks for its read: 4 + 4 + 4 + 6.  At an odd
+        # one it waits up to 5.
+        ("A", A, [[1, 2]], 0, 1, 2, [18, 19, 18, 19, 18, 19],
+         [(0, None), (17, None), (18, 0), (19, 0), (HIGHEST, 0)]),
+        ("A, first task", A, [[1, 2]], 0, 1, 1, [18, 19, 18, 19],
+         [(17, None), (18, 0)]),
+        # Task 1 writes on odd ticks, so task 2 does well to read there.
+        ("A odd", A_odd, [[1, 2]], 0, 1, 2, [19, 18, 19, 18, 19, 18],
+         [(0, None), (17, None), (18, 1), (19, 0), (20, 0), (HIGHEST, 0)]),
+        # The gap makes a value readable on odd ticks as well.
+        ("A with gap 1", A, [[1, 2]], 1, 1, 2, [20, 19, 20, 19, 20, 19],
+         [(18, None), (19, 1), (20, 0)]),
+        ("A with gap 999", A, [[1, 2]], 999, 1, 2,
+         [1_018, 1_017, 1_018, 1_017, 1_018, 1_017],
+         [(1_016, None), (1_017, 1), (1_018, 0)]),
+        ("A with gap 1,000", A, [[1, 2]], 1_000, 1, 2,
+         [1_018, 1_019, 1_018, 1_019, 1_018, 1_019],
+         [(1_017, None), (1_018, 0)]),
+        # One place has T + D at every phase.
+        ("B", [(7, 10, 3, 5)], [[7]], 0, 1, 7, [13] * 10,
+         [(0, None), (12, None), (13, 0), (14, 0)]),
+        ("B with gap 1,000", [(7, 10, 3, 5)], [[7]], 1_000, 1, 7, [13] * 10,
+         [(12, None), (13, 0)]),
+        # C with one task at both places: both move, nothing changes.
+        ("C, one task", [(1, 5, 5, 0)], [[1, 1]], 0, 1, 1, [15] * 5,
+         [(14, None), (15, 0)]),
+        ("C, one task, gap 1", [(1, 5, 5, 0)], [[1, 1]], 1, 1, 1, [20] * 5,
+         [(19, None), (20, 0)]),
+        # C with two tasks that are alike: one moves, the other stays.
+        # Task 1 writes on multiples of 5.  Task 2 at phase f makes each
+        # value wait f ticks; task 1 at phase f > 0 makes it wait 5 - f.
+        ("C, second task", C, [[1, 2]], 0, 1, 2, [15, 16, 17, 18, 19],
+         [(14, None), (15, 0), (17, 0)]),
+        ("C, first task", C, [[1, 2]], 0, 1, 1, [15, 19, 18, 17, 16],
+         [(14, None), (15, 0), (16, 0)]),
+        # The other one at phase 4, where a value waits 4 - f ticks.
+        ("C, a later task", [(1, 5, 5, 0), (2, 5, 5, 4)], [[1, 2]], 0, 1, 1,
+         [19, 18, 17, 16, 15],
+         [(14, None), (15, 4), (16, 3), (17, 2), (18, 1), (19, 0), (20, 0)]),
+        # And at 9 and at 999,999, which are later by multiples of 5.
+        ("C, 9", [(1, 5, 5, 0), (2, 5, 5, 9)], [[1, 2]], 0, 1, 1,
+         [19, 18, 17, 16, 15], [(14, None), (15, 4), (18, 1), (19, 0)]),
+        ("C, 999,999", [(1, 5, 5, 0), (2, 5, 5, 999_999)], [[1, 2]], 0, 1, 1,
+         [19, 18, 17, 16, 15], [(14, None), (15, 4), (18, 1), (19, 0)]),
+        # The gap adds one tick and takes one off the wait, once around.
+        ("C with gap 1", C, [[1, 2]], 1, 1, 2, [20, 16, 17, 18, 19],
+         [(15, None), (16, 1), (19, 1), (20, 0)]),
+        # D today has phase 95 and 16.  A write ends in 2: 10 + 2 + 1 and the
+        # wait from there.  The phase of today is none of those asked for.
+        ("D", D, [[5, 6]], 0, 1, 6,
+         [21, 22, 13, 14, 15, 16, 17, 18, 19, 20],
+         [(12, None), (13, 2), (16, 2), (20, 2), (21, 0), (22, 0)]),
+        ("D, first task", D, [[5, 6]], 0, 1, 5,
+         [16, 15, 14, 13, 22, 21, 20, 19, 18, 17],
+         [(12, None), (13, 3), (14, 2), (15, 1), (16, 0)]),
+        # Task 3 before and behind task 9, which reads at 0 and writes at 5.
+        # A write of task 3 at phase f waits (7 - f) modulo 10 for the read
+        # at 0, and the value at 5 waits (f - 5) modulo 10 for task 3.  At 5,
+        # 6 and 7 this is 2 together, else 12: 20 + 3 + 5 + 3 and the waits.
+        ("threes", threes, [[3, 9, 3]], 0, 1, 3,
+         [43, 43, 43, 43, 43, 33, 33, 33, 43, 43],
+         [(32, None), (33, 5), (42, 5), (43, 0), (HIGHEST, 0)]),
+        # Task 9 moves past task 3, which has phase 7: it does well to read
+        # at 0, 1, 2 after a write of task 3.
+        ("threes, middle", threes, [[3, 9, 3]], 0, 1, 9,
+         ([33] * 3 + [43] * 7) * 2, [(32, None), (33, 0)]),
+        # With gap 1 only phase 6 has a write + gap at the read and a read at
+        # write + gap: 31, two gaps, no wait.
+        ("threes with gap 1", threes, [[3, 9, 3]], 1, 1, 3,
+         [43, 43, 43, 43, 43, 43, 33, 43, 43, 43],
+         [(32, None), (33, 6), (42, 6), (43, 0)]),
+        # With gap 2 phase 6 is a tick late at both: 31, two gaps, 9 and 9.
+        ("threes with gap 2", threes, [[3, 9, 3]], 2, 1, 3,
+         [43, 43, 43, 43, 43, 43, 53, 43, 43, 43],
+         [(42, None), (43, 0), (53, 0)]),
+        # Periods without a common divisor: some value waits all but one tick
+        # of the period, whatever the phases are.  4 + 1 + 6 + 2.
+        ("4 and 7", [(1, 4, 1, 2), (2, 7, 2, 5)], [[1, 2]], 0, 1, 2,
+         [13] * 7, [(12, None), (13, 0)]),
+        # Period 1: one phase there is.
+        ("period 1", [(1, 1, 1, 1_000_000), (2, 3, 2, 1)], [[1, 2]], 0, 1, 1,
+         [6], [(0, None), (5, None), (6, 0), (HIGHEST, 0)]),
+        # Four chains of one schedule, and task 2 in each.
+        # Task 1 writes on odd ticks: 4 + 1 + 4 + 2 at odd phases.
+        ("chain 1 of 4", four, four_chains, 0, 1, 2,
+         [12, 11, 12, 11, 12, 11], [(10, None), (11, 1), (13, 0)]),
+        ("chain 2 of 4", four, four_chains, 0, 2, 2, [8] * 6,
+         [(7, None), (8, 0), (13, 0)]),
+        # 6 + 2 + 3, and from phase + 2 the wait for task 3's read at 1 or 7.
+        ("chain 3 of 4", four, four_chains, 0, 3, 2,
+         [16, 15, 14, 13, 12, 11], [(10, None), (11, 5), (13, 3), (16, 0)]),
+        # Both places move: from each write 4 ticks to the next read.
+        ("chain 4 of 4", four, four_chains, 0, 4, 2, [14] * 6,
+         [(13, None), (14, 0)]),
+    ]
+    # Twelve places.  All periods are 5, so is each duration, and where no
+    # value waits the latency is 65.
+    X, Y = (20, 5, 5, 0), (30, 5, 5, 3)
+    cases += [
+        ("twelve of one", [X], [[20] * 12], 0, 1, 20, [65] * 5,
+         [(64, None), (65, 0)]),
+        # Each of the 11 links waits 4 ticks beside the gap of 1.
+        ("twelve of one, gap 1", [X], [[20] * 12], 1, 1, 20, [120] * 5,
+         [(119, None), (120, 0)]),
+        # One place of twelve: f ticks to it, 5 - f from it.
+        ("one of twelve", [X, Y], [[20] * 6 + [30] + [20] * 5], 0, 1, 30,
+         [65, 70, 70, 70, 70], [(64, None), (65, 0)]),
+        # All the others move, which is the same.
+        ("eleven of twelve", [X, Y], [[20] * 6 + [30] + [20] * 5], 0, 1, 20,
+         [70, 70, 70, 65, 70], [(64, None), (65, 3), (69, 3), (70, 0)]),
+        # Every other place: six times f and five times 5 - f.
+        ("six of twelve", [X, Y], [[20, 30] * 6], 0, 1, 30,
+         [65, 91, 92, 93, 94], [(64, None), (65, 0), (94, 0)]),
+        # The first moves, the last moves.  The rest stays at 3.
+        ("first of twelve", [X, Y], [[20] + [30] * 11], 0, 1, 20,
+         [68, 67, 66, 65, 69], [(64, None), (65, 3), (67, 1), (68, 0)]),
+        ("last of twelve", [X, Y], [[30] * 11 + [20]], 0, 1, 20,
+         [67, 68, 69, 65, 66], [(64, None), (65, 3), (66, 3), (67, 0)]),
+        ("both ends of twelve", [X, Y], [[20] + [30] * 10 + [20]], 0, 1, 20,
+         [70, 70, 70, 65, 70], [(64, None), (65, 3), (70, 0)]),
+    ]
+    # Any number of places: the last moves, and a value waits f ticks for it.
+    # With gap 1 each link before it takes a whole period, and that one f
+    # ticks, or 5 at phase 0.  A place alone has T + D.
+    for places in range(1, 13):
+        chains = [[20] * (places - 1) + [30]]
+        plain = [5 + 5 * places + f for f in range(5)]
+        gapped = [5 * (places - 2) + one for one in plain]
+        gapped[0] += 5
+        if places == 1:
+            plain = gapped = [10] * 5
+        for gap, latencies in ((0, plain), (1, gapped)):
+            cases.append(("%d places, gap %d" % (places, gap), [X, Y], chains,
+                          gap, 1, 30, latencies,
+                          [(min(latencies) - 1, None),
+                           (min(latencies), gap if places > 1 else 0),
+                           (max(latencies), 0)]))
+    for name, tasks, chains, gap, n, number, latencies, pairs in cases:
+        what = "%s, task %d" % (name, number)
+        arguments = schedule(tasks, chains, gap)
+        for bound, phase in pairs:
+            same(ref.smallest_phase_of(*arguments, n, number, bound),
+                 ("ok", phase), "%s, bound %d" % (what, bound))
+        check_phases(arguments, n, number, latencies, what)
+        numbers = chains[n - 1]
+        same(latencies_at_phases(tasks, numbers, gap, number,
+                                 ref.greatest_latency),
+             latencies, what + ", place by place")
+        # Today's phase, be it as large as may be, has no part in it.
+        for today in (0, 1, 95, 999_999, 1_000_000):
+            moved_today = [(one, T, D, today if one == number else F)
+                           for one, T, D, F in tasks]
+            same(ref.latency_at_phases_of(*schedule(moved_today, chains, gap),
+                                          n, number), ("ok", latencies),
+                 "%s, today %d" % (what, today))
+            for bound, phase in pairs:
+                same(ref.smallest_phase_of(
+                    *schedule(moved_today, chains, gap), n, number, bound),
+                     ("ok", phase), "%s, today %d, bound %d"
+                     % (what, today, bound))
+    # What is given stays, as lists and as tuples, and entries past a count
+    # are not looked at.
+    arguments = schedule(threes, [[9], [3, 9, 3], [9, 3]], 1)
+    copy = (arguments[0], list(arguments[1]), arguments[2],
+            [(count, list(numbers)) for count, numbers in arguments[3]],
+            arguments[4])
+    same(ref.smallest_phase_of(*arguments, 2, 3, 33), ("ok", 6), "threes")
+    same(ref.latency_at_phases_of(*arguments, 2, 3)[1].index(33), 6, "threes")
+    same(arguments, copy, "the schedule given stays")
+    tuples = (2, tuple(threes), 1, ((3, (3, 9, 3)),), 1)
+    same(ref.smallest_phase_of(*tuples, 1, 3, 33), ("ok", 6), "tuples")
+    beyond = (2, threes + [None] * 30, 1, [(3, [3, 9, 3] + [None] * 9), None],
+              1)
+    same(ref.smallest_phase_of(*beyond, 1, 3, 33), ("ok", 6), "past a count")
+    same(ref.latency_at_phases_of(*beyond, 1, 3)[1], [43] * 6 + [33]
+         + [43] * 3, "past a count")
+    # A task past the count has the number of one that moves, or of one that
+    # stays; a chain past the count has the chain's number.
+    beyond = (2, threes + [(3, 1, 1, 0), (9, 1, 1, 0)], 1,
+              [(3, [3, 9, 3, 9, 9, 3]), (1, [3])], 1)
+    same(ref.smallest_phase_of(*beyond, 1, 3, 33), ("ok", 6), "past a count")
+    same(ref.smallest_phase_of(*beyond, 1, 3, 32), ("ok", None),
+         "past a count")
+
+
+def phase_schedule(rng, chain_count, most_places):
+    """A random small schedule whose tasks fill several places: tasks, chains.
+
+    The hyperperiod of each chain is at most 36.
+    """
+    pool = rng.choice([(1, 2, 3, 4, 6, 12), (2, 5, 10), (3, 4, 6, 8), (5, 7),
+                       (1, 7, 4), (4, 6, 9), (5, 10, 15), (8, 12), (11, 3)])
+    numbers = sorted(rng.sample(range(1, 65_536), rng.randint(1, 6)))
+    tasks = []
+    for number in numbers:
+        T = rng.choice(pool)
+        D = rng.choice([1, T, rng.randint(1, 2 * T), rng.randint(1, 20)])
+        F = rng.choice([0, rng.randint(0, T), rng.randint(0, 40)])
+        tasks.append((number, T, D, F))
+    chains = []
+    for _ in range(chain_count):
+        fill = rng.sample(numbers, rng.randint(1, min(3, len(numbers))))
+        chains.append([rng.choice(fill)
+                       for _place in range(rng.randint(1, most_places))])
+    return tasks, chains
+
+
+def group_phases(rng):
+    """Each phase by literal walks and by values that travel."""
+    met = {}
+    for turn in range(180):
+        tasks, chains = phase_schedule(rng, 1 + turn % 4,
+                                       12 if turn % 7 == 0 else 4)
+        n = rng.randint(1, len(chains))
+        numbers = chains[n - 1]
+        number = rng.choice(numbers)
+        today = places_at_phase(tasks, numbers, None, 0)
+        gap = no_gap(rng) if turn % 3 == 0 else min(small_gap(rng, today), 60)
+        what = "chain %d of %r with %r, gap %d, task %d" \
+            % (n, chains, tasks, gap, number)
+        latencies = latencies_at_phases(tasks, numbers, gap, number,
+                                        literal_greatest)
+        same(latencies_at_phases(tasks, numbers, gap, number,
+                                 travelled_greatest), latencies,
+             "walks and travels, " + what)
+        # Other tasks of the chain keep their phase; this one's of today
+        # goes, and so it may be any.
+        tasks = [(one, T, D, rng.choice([F, T, 1_000_000])
+                  if one == number else F) for one, T, D, F in tasks]
+        check_phases(schedule(tasks, chains, gap), n, number, latencies, what)
+        for kind, holds in (
+                ("several places", numbers.count(number) > 1),
+                ("all places", set(numbers) == {number}),
+                ("the first place alone", numbers.count(number) == 1
+                 and numbers[0] == number and len(numbers) > 1),
+                ("the last place alone", numbers.count(number) == 1
+                 and numbers[-1] == number and len(numbers) > 1),
+                ("the answer hangs on the bound", len(set(latencies)) > 1),
+                ("not the first phase", min(latencies) < latencies[0]),
+                ("the last phase", min(latencies[:-1], default=0)
+                 > latencies[-1])):
+            met[kind] = met.get(kind, 0) + holds
+    same(len(met), 7, "kinds")
+    for kind, count in met.items():
+        same(count >= 2, True, "met: %s, %d" % (kind, count))
+
+
+def group_phases_of_schedules(rng):
+    """Every chain and every number of a schedule."""
+    refusal = ("refused", 19, 0)
+    met = {}
+    for turn in range(60):
+        tasks, chains = phase_schedule(rng, 1 + turn % 4, 5)
+        gap = no_gap(rng) if turn % 3 == 0 else wide_gap(rng)
+        arguments = schedule(tasks, chains, gap)
+        known = [one for one, _T, _D, _F in tasks]
+        # Numbers of the schedule and their neighbours, those of the entries
+        # past the counts, and numbers that no task can have.
+        asked = set(known) | {one + 1 for one in known} \
+            | {one - 1 for one in known} | {0, 7, 9, 65_535, 65_536, HIGHEST}
+        asked |= {one + 65_536 for one in known}
+        for n, numbers in enumerate(chains, start=1):
+            for number in sorted(asked):
+                what = "chain %d of %r with %r, gap %d, task %d" \
+                    % (n, chains, tasks, gap, number)
+                if number in numbers:
+                    latencies = latencies_at_phases(tasks, numbers, gap,
+                                                    number,
+                                                    ref.greatest_latency)
+                    check_phases(arguments, n, number, latencies, what)
+                    # The phase of today, taken down below the period.
+                    _one, T, _D, F = tasks[known.index(number)]
+                    today = places_at_phase(tasks, numbers, None, 0)
+                    same(ref.greatest_latency(today, gap),
+                         latencies[F % T], what + ", today")
+                    # Where all the others go a way, this one follows.
+                    way = rng.choice([1, T, rng.randint(1, 999_900)])
+                    gone = [(one, *task, F if one == number else F + way)
+                            for one, *task, F in tasks]
+                    same(ref.latency_at_phases_of(
+                        *schedule(gone, chains, gap), n, number),
+                         ("ok", [latencies[(phase - way) % T]
+                                 for phase in range(T)]),
+                         "%s, others %d later" % (what, way))
+                    kind = "in the chain"
+                else:
+                    for bound in (0, 60, HIGHEST):
+                        same(ref.smallest_phase_of(*arguments, n, number,
+                                                   bound), refusal, what)
+                    same(ref.latency_at_phases_of(*arguments, n, number),
+                         refusal, what)
+                    if number not in known:
+                        kind = "not in the schedule"
+                    elif any(number in others for others in chains):
+                        kind = "in another chain"
+                    else:
+                        kind = "in no chain"
+                met[kind] = met.get(kind, 0) + 1
+        for n in (0, len(chains) + 1, 5, HIGHEST):
+            for number in (known[0], 0, HIGHEST):
+                for bound in (0, HIGHEST):
+                    same(ref.smallest_phase_of(*arguments, n, number, bound),
+                         ("refused", 16, 0), "chain number %d" % n)
+                same(ref.latency_at_phases_of(*arguments, n, number),
+                     ("refused", 16, 0), "chain number %d" % n)
+    for kind in ("in the chain", "not in the schedule", "in another chain",
+                 "in no chain"):
+        same(met.get(kind, 0) > 30, True, "often met: " + kind)
+
+
+def group_late_partitions(rng):
+    """The answer at the first late partition against the plain one."""
+    met = {}
+    for turn in range(400):
+        if turn % 5:
+            tasks = small_chain(rng, 60 if turn % 10 else 400,
+                                most_places=5 if turn % 7 else 12)
+            gap = no_gap(rng) if turn % 4 == 0 else small_gap(rng, tasks)
+        else:
+            gap = wide_gap(rng)
+            tasks = sectioned_chain(rng, gap)
+        what = "%r gap %d" % (tasks, gap)
+        latency = ref.greatest_latency(tasks, gap)
+        walk = [end - start for start, end in
+                ref.partitions(tasks, gap, ref.longest_period_place(tasks))]
+        # No partition is later than every anchor.
+        same(max(walk), latency, "largest of all partitions, " + what)
+        for bound in {0, HIGHEST, latency - 1, latency, latency + 1,
+                      *walk, *[one - 1 for one in walk]}:
+            same(ref.keeps(tasks, gap, bound),
+                 ref.greatest_latency(tasks, gap) <= bound,
+                 "%s bound %d" % (what, bound))
+        late = [m for m, one in enumerate(walk) if one == latency]
+        for kind, holds in (
+                ("one partition", len(walk) == 1),
+                ("the first alone", len(walk) > 1 and late == [0]),
+                ("the last alone", len(walk) > 1
+                 and late == [len(walk) - 1]),
+                ("between", 0 < late[0] and late[-1] < len(walk) - 1)):
+            met[kind] = met.get(kind, 0) + holds
+    for kind, count in met.items():
+        same(count > 20, True, "often met: %s, %d" % (kind, count))
+
+
+def group_phases_large(rng):
+    # Period 10,000 by hand.  Task 1 writes 9,999 after a multiple of 10,000.
+    # At phase 9,999 nothing waits: 10,000 + 9,999 + 7.  At phase f before
+    # that a value waits f + 1 ticks.
+    tasks = [(1, 10_000, 9_999, 0), (2, 10_000, 7, 1_000_000)]
+    arguments = schedule(tasks, [[2], [1, 2]], 0)
+    same(ref.latency_at_phases_of(*arguments, 2, 2),
+         ("ok", [20_007 + f for f in range(9_999)] + [20_006]),
+         "period 10,000")
+    for bound, phase in ((20_006, 9_999), (20_007, 0), (20_005, None),
+                         (HIGHEST, 0)):
+        same(ref.smallest_phase_of(*arguments, 2, 2, bound), ("ok", phase),
+             "period 10,000, bound %d" % bound)
+    # Task 1 moves: the less it has to wait for 7, the later its phase is.
+    same([ref.smallest_phase_of(*schedule(
+        [(1, 10_000, 4_000_000, 1_000_000), (2, 10_000, 4_000_000, 7)],
+        [[1, 2]], gap), 1, 1, 8_010_000 + gap + wait)[1]
+          for gap in (0, 3, 7) for wait in (0, 1, 7 - gap, 9_999)],
+         [7, 6, 0, 0, 4, 3, 0, 0, 0, 0, 0, 0], "longest durations")
+    # Twelve places and nearly the longest latency there is.  Task 1 fills
+    # eleven of them.  With gap 1,000 each link among these takes a whole
+    # period: 1 + 44 + 10 million.  Task 2 stands behind or before and adds
+    # 4,000,000, the gap, and the wait.
+    tasks = [(1, 1_000_000, 4_000_000, 1_000_000), (2, 10_000, 4_000_000, 5)]
+    arguments = schedule(tasks, [[1] * 11 + [2], [2] + [1] * 11], 1_000)
+    for n, bound, phase in (
+            # Behind: task 1 writes on multiples of 10,000, so a value is
+            # readable 1,000 later.
+            (1, 59_001_000, 1_000), (1, 59_001_001, 1_000),
+            (1, 59_009_999, 1_000), (1, 59_010_000, 0), (1, HIGHEST, 0),
+            # Before: a value of phase f waits 9,000 - f ticks.
+            (2, 59_010_000, 0), (2, 59_009_999, 1), (2, 59_009_800, 200)):
+        same(ref.smallest_phase_of(*arguments, n, 2, bound), ("ok", phase),
+             "twelve places, chain %d, bound %d" % (n, bound))
+    # Two places, and any number of equal periods, without a walk.
+    met = {}
+    for turn in range(200):
+        gap = wide_gap(rng)
+        T = rng.choice([1, 2, 9_999, 10_000, rng.randint(1, 50),
+                        rng.randint(1, 10_000)])
+        if turn % 2:
+            greatest = greatest_of_pair
+            numbers = rng.choice([[11, 12], [12, 11]])
+            next_T = rng.choice([T, T * rng.randint(1, 99),
+                                 rng.randint(1, 10_000)])
+        else:
+            greatest = greatest_of_equals
+            numbers = [rng.choice([11, 11, 12, 13, 14])
+                       for _ in range(rng.randint(1, 11))]
+            numbers.insert(rng.randint(0, len(numbers)), 11)
+            next_T = T
+        tasks = [(number, T if number == 11 else next_T,
+                  rng.choice([1, 4_000_000, rng.randint(1, 20_000)]),
+                  rng.choice([0, 1_000_000, rng.randint(0, 1_000_000)]))
+                 for number in (11, 12, 13, 14)]
+        if math.lcm(T, next_T) > 100 * max(T, next_T):
+            continue
+        what = "%r with %r, gap %d" % (numbers, tasks, gap)
+        arguments = schedule(tasks, [[13], numbers, [14, 12]], gap)
+        latencies = latencies_at_phases(tasks, numbers, gap, 11, greatest,
+                                        rng.choice([1, 20, 100]))
+        if len(latencies) == T and T <= 20:
+            check_phases(arguments, 2, 11, latencies, what)
+        # A bound that a phase among these keeps.
+        for bound in {min(latencies), rng.choice(latencies), HIGHEST}:
+            phase = first_at_most(latencies, bound)
+            same(ref.smallest_phase_of(*arguments, 2, 11, bound),
+                 ("ok", phase), "%s, bound %d" % (what, bound))
+            kind = "later" if phase else "at once"
+            met[kind] = met.get(kind, 0) + 1
+    for kind in ("later", "at once"):
+        same(met.get(kind, 0) > 50, True, "often met: " + kind)
+
+
+def group_phase_refusals(rng):
+    refusal = ("refused", 20, 0)
+    # The faults in their order, all of them together or not.  Task 1 is the
+    # one that passes.  Tasks 4 and 5 together are 7, 3 and 7 have a period
+    # above 10,000, and 8 is unknown.
+    tasks = [(1, 10, 1, 0), (2, 10_000, 2, 0), (3, 10_001, 1, 0),
+             (4, 999_983, 1, 0), (5, 999_979, 1, 0), (6, 10, 1, 0),
+             (7, 10_001, 1, 3)]
+    met = {}
+    for faults in itertools.product((False, True), repeat=8):
+        eight, five, far, six, sixteen, seven, nineteen, twenty = faults
+        for _ in range(12):
+            chain = [1, 4, 5] if seven else [1, 3]
+            if nineteen:
+                number = 7 if twenty else \
+                    rng.choice([0, 2, 6, 8, 65_535, 65_536, HIGHEST])
+            else:
+                number = chain[1] if twenty else 1
+            rng.shuffle(chain)
+            # The other chains are as good as any, and one of them is 7.
+            chains = rng.sample([[2], [7, 2, 6], [7], [4, 5], [2, 6]],
+                                rng.randint(1, 3))
+            at = rng.randint(0, len(chains))
+            chains.insert(at, chain)
+            n = at + 1
+            place = 0
+            if sixteen:
+                n = rng.choice([0, len(chains) + 1, 5, HIGHEST])
+            if six:
+                which = rng.randrange(len(chains))
+                index = rng.randrange(len(chains[which]))
+                chains[which][index] = 8
+                if rng.random() < 0.5:
+                    chains[-1][-1] = 8
+                place = next(position for numbers in chains
+                             for position, one in enumerate(numbers, start=1)
+                             if one == 8)
+            gap = rng.choice([0, 1, 1_000])
+            if far:
+                gap = rng.choice([1_001, 65_536, HIGHEST])
+                place = 0
+            given = list(tasks)
+            if five:
+                # Also the task that is to move, and also its phase.
+                index = rng.choice([0, rng.randrange(7)])
+                one, T, D, F = given[index]
+                given[index] = rng.choice([
+                    (one, 0, D, F), (one, 1_000_001, D, F), (one, T, 0, F),
+                    (one, T, 4_000_001, F), (one, T, D, 1_000_001),
+                    (one, T, D, HIGHEST), (index, T, D, F),
+                    (65_536, T, D, F)])
+                place = index + 1
+            arguments = list(schedule(given, chains, gap))
+            if eight:
+                kind = rng.randrange(3)
+                if kind == 0:
+                    arguments[0] = rng.choice([0, 33, HIGHEST])
+                elif kind == 1:
+                    arguments[2] = rng.choice([0, 5, HIGHEST])
+                else:
+                    which = rng.randrange(len(chains))
+                    arguments[3][which] = (rng.choice([0, 13, HIGHEST]),
+                                           arguments[3][which][1])
+                place = 0
+            expected = next((one for one, holds
+                             in zip((8, 5, 5, 6, 16, 7, 19, 20), faults)
+                             if holds), None)
+            if expected is not None:
+                expected = ("refused", expected,
+                            place if expected in (5, 6) else 0)
+            met[expected and expected[1]] = 1
+            what = "%r number %d of chain %d" % (arguments, number, n)
+            bound = rng.choice([0, 100_000, HIGHEST])
+            for found in (ref.smallest_phase_of(*arguments, n, number, bound),
+                          ref.latency_at_phases_of(*arguments, n, number)):
+                same(found if found[0] == "refused" else None, expected, what)
+    same(set(met), {None, 8, 5, 6, 16, 7, 19, 20}, "every refusal was met")
+    # The period of the task, at the limit and above it.  Here it is the only
+    # task, the last, or first and last.
+    for T in (1, 2, 9_999, 10_000, 10_001, 10_002, 16_384, 20_000, 65_536,
+              75_000, 999_999, 1_000_000):
+        for gap in (0, 1_000):
+            arguments = schedule([(4, 10, 1, 0), (5, T, 1, 1_000_000)],
+                                 [[5], [4, 5], [5, 4, 5]], gap)
+            for n in (1, 2, 3):
+                what = "period %d, chain %d" % (T, n)
+                same(ref.smallest_phase_of(*arguments, n, 5, HIGHEST),
+                     refusal if T > 10_000 else ("ok", 0), what)
+                if T > 10_000:
+                    for bound in (0, T, T + 1, 2 ** 32):
+                        same(ref.smallest_phase_of(*arguments, n, 5, bound),
+                             refusal, what)
+                    same(ref.latency_at_phases_of(*arguments, n, 5), refusal,
+                         what)
+                for number in (0, 1, 3, 6, 65_535, HIGHEST):
+                    same(ref.smallest_phase_of(*arguments, n, number, 0),
+                         ("refused", 19, 0), what)
+            # The other task's period has no part in it, but 19 has.
+            same(ref.smallest_phase_of(*arguments, 1, 4, HIGHEST),
+                 ("refused", 19, 0), "period %d beside" % T)
+            for n in (2, 3):
+                same(ref.smallest_phase_of(*arguments, n, 4, HIGHEST),
+                     ("ok", 0), "period %d beside, chain %d" % (T, n))
+                same(ref.smallest_phase_of(*arguments, n, 4, 0),
+                     ("ok", None), "period %d beside, chain %d" % (T, n))
+    # Entries past a chain's count do not put a task into it.  They are 7.
+    arguments = schedule([(7, 10, 1, 0), (8, 10_001, 1, 0), (9, 5, 1, 0)],
+                         [[9], [9, 8]], 0)
+    for n in (1, 2):
+        same(ref.smallest_phase_of(*arguments, n, 7, HIGHEST),
+             ("refused", 19, 0), "7 past the count")
+    same(ref.smallest_phase_of(*arguments, 1, 8, HIGHEST),
+         ("refused", 19, 0), "19 before 20")
+    same(ref.smallest_phase_of(*arguments, 2, 8, HIGHEST), refusal, "20")
+    # Today's phase is checked, although it would be replaced.
+    for F, expected in ((1_000_000, ("ok", 0)), (1_000_001, ("refused", 5, 2)),
+                        (HIGHEST, ("refused", 5, 2))):
+        for numbers in ([4, 5], [5, 5]):
+            arguments = schedule([(4, 10, 1, 0), (5, 10, 1, F)], [numbers], 0)
+            same(ref.smallest_phase_of(*arguments, 1, 5, HIGHEST), expected,
+                 "phase %d today" % F)
+    # 7 is of the chain that is asked for, and of today's periods.
+    tasks = [(1, 151, 1, 0), (2, 397_351, 1, 0), (3, 8, 1, 0)]
+    arguments = schedule(tasks, [[1, 3], [1, 2], [3, 2]], 0)
+    for number in (0, 1, 2, 3, 4, HIGHEST):
+        for bound in (0, HIGHEST):
+            same(ref.smallest_phase_of(*arguments, 2, number, bound),
+                 ("refused", 7, 0), "7 before 19 and 20")
+        same(ref.latency_at_phases_of(*arguments, 2, number),
+             ("refused", 7, 0), "7 before 19 and 20")
+    # H of chain 3 is 8 times 397,351, and its longest period walks 8.
+    same(ref.smallest_phase_of(*arguments, 3, 3, 397_361), ("ok", 0),
+         "397,351 + 1 + 1 and up to 8")
+    same(ref.smallest_phase_of(*arguments, 3, 2, HIGHEST), refusal, "20")
+    same(ref.smallest_phase_of(*arguments, 1, 2, HIGHEST),
+         ("refused", 19, 0), "19 before 20")
+
+
 GROUPS = [
     ("survey example A", group_survey_a),
     ("survey examples B to E", group_survey_b_to_e),
@@ -4861,6 +5503,12 @@ GROUPS = [
     ("files of test loads", group_load_files),
     ("words of chainload by hand", group_words_by_hand),
     ("words of chainload", group_words),
+    ("a phase for a bound by hand", group_phases_by_hand),
+    ("a phase for a bound by literal walks", group_phases),
+    ("a phase for a bound by chain number", group_phases_of_schedules),
+    ("partitions up to the first late one", group_late_partitions),
+    ("a phase for a bound, large values", group_phases_large),
+    ("refusals of a phase for a bound", group_phase_refusals),
 ]
 
 

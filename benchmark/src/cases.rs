@@ -5,6 +5,7 @@ use plain::chain::{check, forward};
 use plain::latency::longest_place;
 use plain::load::make_load;
 use plain::maker::{make_table, Made};
+use plain::phase::Movable;
 use plain::schedule::NumberedTask;
 use plain::task::Task;
 use plain::timing::warm_jobs;
@@ -30,6 +31,7 @@ pub enum Call {
     Windows { chain: Chain, b: u64, k: u64 },
     Sections { chain: Chain, cuts: Vec<u64> },
     Bookings { schedule: Schedule, ticks: Vec<u64> },
+    Phase { schedule: Schedule, number: u64, bound: u64 },
     Load { seed: u64, places: usize },
 }
 
@@ -219,10 +221,15 @@ fn sections(kind: &str, chain: Chain, cuts: &[u64]) -> Case {
 
 /// A schedule of two chains without a common task.
 fn schedule_of(first: &[Task], second: &[Task], gap: u64) -> Schedule {
-    let numbered: Vec<NumberedTask> = (1..).zip(first.iter().chain(second)).map(|(number, &task)| NumberedTask { number, task }).collect();
-    let tasks = numbered.iter().flat_map(|one| [one.number, one.task.period, one.task.duration, one.task.phase]).collect();
     let n = first.len() as u64;
-    let routes: Vec<Vec<u64>> = vec![(1..=n).collect(), (n + 1..=n + second.len() as u64).collect()];
+    let tasks: Vec<Task> = first.iter().chain(second).copied().collect();
+    schedule_with(&tasks, vec![(1..=n).collect(), (n + 1..=n + second.len() as u64).collect()], gap)
+}
+
+/// A schedule of tasks numbered from 1.
+fn schedule_with(tasks: &[Task], routes: Vec<Vec<u64>>, gap: u64) -> Schedule {
+    let numbered: Vec<NumberedTask> = (1..).zip(tasks).map(|(number, &task)| NumberedTask { number, task }).collect();
+    let tasks = numbered.iter().flat_map(|one| [one.number, one.task.period, one.task.duration, one.task.phase]).collect();
     let mut chains = vec![0; 12 * routes.len()];
     for (entries, route) in chains.chunks_mut(12).zip(&routes) {
         entries[..route.len()].copy_from_slice(route);
@@ -254,6 +261,23 @@ fn bookings(kind: &str, periods: [&[u64]; 2], gap: u64) -> Case {
         enumerating: steps * ticks.len() as u64,
         work: a * n + b * m,
         call: Call::Bookings { schedule: schedule_of(&first, &second, gap), ticks },
+    }
+}
+
+/// The phase of a task in a chain of tasks by their numbers, which count from 1.
+fn phase(kind: &str, tasks: &[Task], route: &[u64], gap: u64, number: u64, bound: u64) -> Case {
+    let schedule = schedule_with(tasks, vec![route.to_vec()], gap);
+    let chain = Movable::of(&schedule.plain, 1, number).expect("a task of the chain");
+    let (h, period, n) = (chain.h, chain.period, route.len() as u64);
+    let longest = chain.tasks()[longest_place(chain.tasks())].period;
+    let found = chain.search(bound);
+    let answer = found.phase.map_or("none".to_string(), |phase| format!("phase {phase}"));
+    Case {
+        group: "phase",
+        name: format!("{kind}, {n} places{}, H {h}, {answer}, tried {}, walked {}", gap_text(gap), found.tried, found.walked),
+        call: Call::Phase { schedule, number, bound },
+        enumerating: period * (h / longest) * n,
+        work: (found.walked + 3 * found.tried) * n,
     }
 }
 
@@ -340,6 +364,24 @@ pub fn all() -> Vec<Case> {
     cases.push(bookings("co-prime", [&[4, 5, 7, 9], &[11, 13, 17, 19]], 0));
     cases.push(bookings("co-prime", [&[1], &[768, 78_125]], 0));
     cases.push(bookings("co-prime", [&[7, 9], &[10, 11]], 37));
+    // The bounds are the least that some phase keeps, and one less.
+    let equal = tasks_after(0, &[10_000, 10_000, 5987]);
+    cases.push(phase("harmonic", &tasks_after(0, &doubling(250, 4)), &[1, 2, 3, 4], 0, 4, 5944));
+    for bound in [908_291, 908_290] {
+        cases.push(phase("published", &tasks_after(0, &published), &[1, 2, 3, 4, 5], 0, 5, bound));
+    }
+    for bound in [31_977, 31_976] {
+        cases.push(phase("co-prime", &tasks_after(0, &[9973, 6016]), &[1, 2], 0, 1, bound));
+    }
+    for bound in [41_973, 41_972] {
+        cases.push(phase("two equal", &equal, &[1, 2, 3], 0, 1, bound));
+    }
+    let drawn = |fields: &[[u64; 3]]| fields.iter().map(|&[period, duration, phase]| Task { period, duration, phase }).collect::<Vec<Task>>();
+    // Of some thousands of drawn schedules those for which the walks are longest: with these tries, without a guess of where to begin, and at twelve places.
+    cases.push(phase("drawn", &drawn(&[[7560, 3076, 1924], [1396, 1268, 882], [7560, 3324, 4257]]), &[2, 1, 1, 3, 1, 1], 105, 1, 36_080));
+    cases.push(phase("drawn", &drawn(&[[9240, 2674, 7308], [165, 161, 133], [4999, 49, 1166], [9240, 258, 9075]]), &[3, 1, 1, 4, 2, 1, 1, 2, 4, 1], 0, 1, 53_920));
+    cases.push(phase("drawn", &drawn(&[[9984, 7856, 7026], [5987, 3643, 626], [9984, 7762, 2698]]), &[3, 1, 2, 1, 2, 3, 1, 2, 2, 1, 2, 3], 716, 3, 127_570));
+    cases.push(phase("load 7", &loaded(7, 12).tasks, &(1..=12).collect::<Vec<_>>(), 0, 1, 647_479));
     cases.extend([1, 4, 12].iter().map(|&places| loading(42, places)));
     cases
 }
@@ -420,6 +462,17 @@ fn repeat_bookings<P: Program>(schedule: &Schedule, ticks: &[u64], repeats: usiz
     digest
 }
 
+#[inline(never)]
+fn repeat_phase<P: Program>(schedule: &Schedule, number: u64, bound: u64, repeats: usize) -> u64 {
+    let mut digest = 0;
+    for _ in 0..repeats {
+        let mut out = [0; 2];
+        let code = P::phase(black_box(schedule), number, bound, &mut out);
+        digest = mix(mix(mix(digest, code), out[0]), out[1]);
+    }
+    digest
+}
+
 /// Each seed is the one after.
 #[inline(never)]
 fn repeat_load<P: Program>(seed: u64, places: usize, repeats: usize) -> u64 {
@@ -460,6 +513,7 @@ pub fn repeat<P: Program>(case: &Case, lists: &mut Lists, repeats: usize) -> u64
         Call::Windows { chain, b, k } => digest = repeat_windows::<P>(chain, *b, *k, repeats),
         Call::Sections { chain, cuts } => digest = repeat_sections::<P>(chain, cuts, repeats),
         Call::Bookings { schedule, ticks } => digest = repeat_bookings::<P>(schedule, ticks, repeats),
+        Call::Phase { schedule, number, bound } => digest = repeat_phase::<P>(schedule, *number, *bound, repeats),
         Call::Load { seed, places } => digest = repeat_load::<P>(*seed, *places, repeats),
     }
     digest
@@ -516,6 +570,11 @@ pub fn answers<P: Program>(case: &Case) -> Vec<u64> {
                 all.extend(out);
             }
         }
+        Call::Phase { schedule, number, bound } => {
+            let mut out = [RUBBISH; 2];
+            all.push(P::phase(schedule, *number, *bound, &mut out));
+            all.extend(out);
+        }
         Call::Load { seed, places } => {
             for i in 0..TICKS as u64 {
                 let mut out = [RUBBISH; 36];
@@ -537,7 +596,7 @@ pub fn digest(answers: &[u64]) -> u64 {
 /// Whether an answer is a refusal. Every case is meant to be accepted.
 pub fn refuses(case: &Case, answers: &[u64]) -> bool {
     match case.call {
-        Call::Make { .. } | Call::Histogram { .. } | Call::Windows { .. } | Call::Sections { .. } => answers[0] != 0,
+        Call::Make { .. } | Call::Histogram { .. } | Call::Windows { .. } | Call::Sections { .. } | Call::Phase { .. } => answers[0] != 0,
         Call::Read { .. } => answers.iter().any(|&answer| REFUSED <= answer),
         Call::Delay { .. } | Call::Age { .. } => answers.chunks(2).any(|pair| pair[0] != 0),
         Call::Bookings { .. } => answers.chunks(5).any(|five| five[0] != 0),

@@ -1,12 +1,17 @@
-//! The same answers by enumerating ticks, to measure against. The checks are the plain program's.
+//! The same answers by enumerating ticks, or phases, to measure against. The checks are the plain program's.
 use plain::bookings::{check_pair, Bookings};
 use plain::chain::{check, forward};
 use plain::histogram;
+use plain::latency::longest_place;
 use plain::maker::{Figures, Made};
+use plain::outset::places_at;
+use plain::phase::Movable;
 use plain::schedule::Schedule;
 use plain::sections::{section_latencies_by, Sections};
+use plain::stepping::State;
 use plain::table::is_well_formed;
 use plain::task::Task;
+use plain::timing::warm_jobs;
 use plain::{Refusal, UPPER_TICK};
 
 fn refusal(number: u64) -> Refusal {
@@ -204,4 +209,24 @@ pub fn pair_of(schedule: &Schedule, first: usize, second: usize, t: u64) -> Resu
     let (a, b) = (walked_from(first, gap, t), walked_from(second, gap, t));
     let greatest = (from..from + h).map(|tick| walked_from(first, gap, tick).abs_diff(walked_from(second, gap, tick))).max().unwrap_or(0);
     Ok(Bookings { later: a.max(b), earlier: a.min(b), difference: a.abs_diff(b), greatest })
+}
+
+/// Every phase from 0 to period - 1 is tried, each from its own warm-up on. A try ends at its first partition above the bound all the same.
+pub fn smallest_phase(schedule: &Schedule, n: usize, number: u64, bound: u64) -> Result<Option<u64>, Refusal> {
+    let mut chain = Movable::of(schedule, n, number)?;
+    let cut = longest_place(chain.tasks());
+    let count = chain.h / chain.tasks()[cut].period;
+    let period = chain.period;
+    let keeps = |phase: &u64| {
+        chain.put(*phase);
+        let tasks = chain.tasks();
+        let mut places = places_at(tasks, chain.gap, cut, warm_jobs(tasks, chain.gap)[cut]);
+        let places = &mut places[..tasks.len()];
+        if 1 < count {
+            places.iter_mut().for_each(|place| place.prepare());
+        }
+        let state = State { places, cut, first: tasks[0], last: tasks[tasks.len() - 1] };
+        state.greatest_within(count, bound).0 <= bound
+    };
+    Ok((0..period).find(keeps))
 }

@@ -242,7 +242,7 @@ fn main() {
         };
         let mut programs = vec![&PROVED, &PLAIN];
         programs.extend(other.map(|(program, _)| program));
-        if formed && !["reading", "histogram", "sections", "bookings", "load"].contains(&case.group) {
+        if formed && !["reading", "histogram", "sections", "bookings", "phase", "load"].contains(&case.group) {
             programs.extend([&BY_VALUE, &FLAT]);
         }
         if case.enumerating <= limits.enumerating {

@@ -22,7 +22,7 @@ pub struct Table {
     pub h: u64,
 }
 
-/// A schedule with two chains, also in two ways: for the plain program, and as lists for C.
+/// A schedule, also in two ways: for the plain program, and as lists for C.
 pub struct Schedule {
     pub plain: plain::schedule::Schedule,
     pub tasks: Vec<u64>,
@@ -42,6 +42,10 @@ pub trait Program {
     fn sections(chain: &Chain, cuts: &[u64], out: &mut [u64; 14]) -> u64;
     /// Of the schedule's chains 1 and 2.
     fn bookings(schedule: &Schedule, t: u64, out: &mut [u64; 4]) -> u64;
+    /// The phase, and 1 where there is none, of a task of the schedule's chain 1. What passes a chain otherwise has the plain program's.
+    fn phase(schedule: &Schedule, number: u64, bound: u64, out: &mut [u64; 2]) -> u64 {
+        give_phase(plain::phase::smallest_phase(&schedule.plain, 1, number, bound), out)
+    }
     /// T, D, F of each place of a made-up chain. There is one way to make it, so the proved program alone has another than the plain one's.
     fn load(seed: u64, places: usize, out: &mut [u64; 36]) -> u64 {
         give_load(plain::load::make_load(seed, places), out)
@@ -105,6 +109,10 @@ fn give_load(answer: Result<impl Iterator<Item = Task>, Refusal>, out: &mut [u64
     }
 }
 
+fn give_phase(answer: Result<Option<u64>, Refusal>, out: &mut [u64; 2]) -> u64 {
+    give(answer.map(|phase| phase.map_or([0, 1], |phase| [phase, 0])), out)
+}
+
 fn give_bookings(answer: Result<Bookings, Refusal>, out: &mut [u64; 4]) -> u64 {
     give(answer.map(|b| [b.later, b.earlier, b.difference, b.greatest]), out)
 }
@@ -131,6 +139,10 @@ mod c {
         pub fn mo_bookings(
             tasks: *const u64, tasks_length: usize, count: usize, chains: *const u64, chains_length: usize, places: *const u64, places_length: usize,
             chain_count: usize, gap: u64, first: usize, second: usize, t: u64, figures: *mut u64,
+        ) -> u64;
+        pub fn mo_smallest_phase(
+            tasks: *const u64, tasks_length: usize, count: usize, chains: *const u64, chains_length: usize, places: *const u64, places_length: usize,
+            chain_count: usize, gap: u64, chain: usize, number: u64, bound: u64, phase: *mut u64, none: *mut u64,
         ) -> u64;
     }
 }
@@ -175,6 +187,13 @@ impl Program for Proved {
         let (tasks, chains, places) = (&schedule.tasks, &schedule.chains, &schedule.places);
         let (count, gap) = (tasks.len() / 4, schedule.plain.gap);
         unsafe { c::mo_bookings(tasks.as_ptr(), tasks.len(), count, chains.as_ptr(), chains.len(), places.as_ptr(), places.len(), places.len(), gap, 1, 2, t, out.as_mut_ptr()) }
+    }
+
+    fn phase(schedule: &Schedule, number: u64, bound: u64, out: &mut [u64; 2]) -> u64 {
+        let (tasks, chains, places) = (&schedule.tasks, &schedule.chains, &schedule.places);
+        let (count, gap) = (tasks.len() / 4, schedule.plain.gap);
+        let [phase, none] = out;
+        unsafe { c::mo_smallest_phase(tasks.as_ptr(), tasks.len(), count, chains.as_ptr(), chains.len(), places.as_ptr(), places.len(), places.len(), gap, 1, number, bound, phase, none) }
     }
 
     fn load(seed: u64, places: usize, out: &mut [u64; 36]) -> u64 {
@@ -251,6 +270,10 @@ impl Program for Enumerating {
 
     fn bookings(schedule: &Schedule, t: u64, out: &mut [u64; 4]) -> u64 {
         give_bookings(enumerate::pair_of(&schedule.plain, 1, 2, t), out)
+    }
+
+    fn phase(schedule: &Schedule, number: u64, bound: u64, out: &mut [u64; 2]) -> u64 {
+        give_phase(enumerate::smallest_phase(&schedule.plain, 1, number, bound), out)
     }
 }
 

@@ -6,7 +6,7 @@ refusal and past the counts, is looked at in each call; where it does not hold, 
 from __future__ import annotations
 
 from dataclasses import dataclass
-from typing import Tuple
+from typing import Optional, Tuple
 
 from . import library
 from .lent import (
@@ -231,6 +231,14 @@ def bookings(schedule: Schedule, first: int, second: int, t: int) -> Bookings:
     code = library.load().mo_bookings(*schedule.lent(), number(first), number(second), number(t), figures)
     _sound(code, list(figures), "schedule")
     return Bookings(*figures)
+
+
+def smallest_phase(schedule: Schedule, number_of_chain: int, number_of_task: int, bound: int) -> Optional[int]:
+    """The smallest phase of a task, by its number, with which a chain has no latency above the bound; None where no phase keeps it."""
+    phase, none = _asked("mo_smallest_phase", "schedule", 2, schedule.lent(), number_of_chain, number_of_task, bound)
+    if none > 1 or none and phase:
+        raise Broken(f"the phase is {phase} and none {none}")
+    return None if none else phase
 
 
 def report(data: Bytes, out: WritableBytes) -> int:

@@ -39,6 +39,7 @@ DECLARED = {
     "mo_write_file": (*SCHEDULE, BYTES, SIZE, NUMBERS),
     "mo_chain_of_schedule": (*SCHEDULE, SIZE, NUMBERS, NUMBERS),
     "mo_bookings": (*SCHEDULE, SIZE, SIZE, NUMBER, NUMBERS),
+    "mo_smallest_phase": (*SCHEDULE, SIZE, NUMBER, NUMBER, NUMBERS, NUMBERS),
     "mo_report": (BYTES, SIZE, BYTES, SIZE),
 }
 

@@ -61,6 +61,8 @@ MEANINGS = {
         "cut c parts place c from the next, so each cut is 1 to the number of places less 1, and above the cut before; a chain of one place has none",
     ),
     18: Meaning("the width is 0", "a width is 1 tick or more; delays are counted in steps of it"),
+    19: Meaning("the task is not in the chain", "a phase is looked for of a task that fills a place of the chain, named by its number"),
+    20: Meaning("the task's period is too long for a search of its phases", "its period is at most 10,000 ticks, which is 10 ms"),
 }
 
 # What the place counts: in a file, in a schedule, in a chain.

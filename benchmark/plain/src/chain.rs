@@ -3,7 +3,7 @@ use crate::division::{quotient, remainder};
 use crate::task::Task;
 use crate::{Refusal, GAP_LIMIT, HYPERPERIOD_LIMIT, MOST_PLACES};
 
-fn gcd(mut a: u64, mut b: u64) -> u64 {
+pub(crate) fn gcd(mut a: u64, mut b: u64) -> u64 {
     while b != 0 {
         (a, b) = (b, remainder(a, b));
     }

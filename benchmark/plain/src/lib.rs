@@ -9,6 +9,7 @@ pub mod latency;
 pub mod load;
 pub mod maker;
 pub mod outset;
+pub mod phase;
 pub mod schedule;
 pub mod sections;
 pub mod stepping;

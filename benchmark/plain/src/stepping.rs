@@ -75,4 +75,16 @@ impl State<'_> {
         }
         greatest
     }
+
+    /// The same, but the first latency above the bound ends it; and how many partitions were walked.
+    pub fn greatest_within(mut self, n: u64, bound: u64) -> (u64, u64) {
+        let mut greatest = self.partition().latency();
+        let mut walked = 1;
+        while walked < n && greatest <= bound {
+            self.step();
+            greatest = greatest.max(self.partition().latency());
+            walked += 1;
+        }
+        (greatest, walked)
+    }
 }

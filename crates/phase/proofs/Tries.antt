@@ -9,6 +9,8 @@ use mathlib.Core.Bool.{Bool, true, false}
 use mathlib.Core.List.{List}
 use lib.Dec.{leb}
 use lib.ListN.{length, getD, length-map}
+use mir.Syntax.{w64}
+use mir.Val.{Fits}
 use borrow.Author.Tests.{le-leb, lt-leb}
 use Rattle.ranges.specs.Least.{leastFrom}
 use Rattle.ranges.specs.LeastLaws.{least-here, least-on}
@@ -197,6 +199,9 @@ module _ (g : ℕ) (places : List ℕ) (l : List Task) (number bound phases n : 
 
 -- ---- where the tries begin
 
+pub quotient-fits : (x T : ℕ) → x ≤ 61000000 → Fits w64 (x / T + 1)
+quotient-fits x T h = omega (arith, div-le-self x T)
+
 module _ (g : ℕ) (places : List ℕ) (l : List Task) (ok : Accepted g places l) (p : ℕ) (is : p ≡ longestPlace (placed g l)) where
   place : (1 ≤ p) × (p ≤ length (placed g l))
   place = let w = longest-place (placed g l) (ok .sound .some) in (omega (arith, w .some), omega (arith, w .inside))
@@ -208,19 +213,20 @@ module _ (g : ℕ) (places : List ℕ) (l : List Task) (ok : Accepted g places l
     pub longest-pos : 1 ≤ a .period
     longest-pos = omega (arith, ap (λ (x : Place). x .period) at-is, ok .sound .each (p - 1) (longest-inside .1) .period-pos)
 
-    pub tries-begin : (h : ℕ) → h ≡ hyperOf (placed g l) → (r : List ℕ) → Reciprocals (placed g l) r → Begun g places l (p - 1) (h / a .period) (60011000 / a .period + 1) r
-    tries-begin h e r rs =
+    -- x is a tick up to which every warm-up job has read
+    pub tries-begin : (h : ℕ) → h ≡ hyperOf (placed g l) → (x : ℕ) → 60011000 ≤ x → x ≤ 61000000 → (r : List ℕ) → Reciprocals (placed g l) r → Begun g places l (p - 1) (h / a .period) (x / a .period + 1) r
+    tries-begin h e x low high r rs =
         let T : ℕ = a .period in
-        let same : T ≡ at (placed g l) (p - 1) .period = ap (λ (x : Place). x .period) at-is in
+        let same : T ≡ at (placed g l) (p - 1) .period = ap (λ (y : Place). y .period) at-is in
         let max : T ≤ 1000000 = omega (arith, ok .sound .each (p - 1) (longest-inside .1) .period-max) in
-        let m : (60011000 / T + 1) * T ≡ 60011000 / T * T + 1 * T = add-mul (60011000 / T) 1 T in
-        let b : (60011000 / T + 1) * at (placed g l) (p - 1) .period ≡ (60011000 / T + 1) * T = ap (λ (y : ℕ). (60011000 / T + 1) * y) (sym same) in
+        let m : (x / T + 1) * T ≡ x / T * T + 1 * T = add-mul (x / T) 1 T in
+        let b : (x / T + 1) * at (placed g l) (p - 1) .period ≡ (x / T + 1) * T = ap (λ (y : ℕ). (x / T + 1) * y) (sym same) in
         record {
           accepted = ok;
           inside = omega (arith, longest-inside .1, length-map l (placeOf g));
           range = ap (λ (y : ℕ). y / T) e ∙ ap (λ (y : ℕ). hyperOf (placed g l) / y) same;
-          warm = omega (arith, m, b, lt-div-mul-add {a = 60011000} {b = T} longest-pos);
-          soon = omega (arith, m, b, div-mul-le-self 60011000 T);
+          warm = omega (arith, m, b, lt-div-mul-add {a = x} {b = T} longest-pos);
+          soon = omega (arith, m, b, div-mul-le-self x T);
           constants = rs;
         }
 

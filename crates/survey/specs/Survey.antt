@@ -1,4 +1,4 @@
--- Document 01, "Survey examples": A1 to A8, B, C, D and E, and the examples of orders 2, 5 and 6 of document 02, with what follows from order 7 for A and B and from order 8 for some seeds, as one computed list with one conclusion. Every row
+-- Document 01, "Survey examples": A1 to A8, B, C, D and E, and the examples of orders 2, 5 and 6 of document 02, with what follows from order 7 for A and B, from order 8 for some seeds and from order 9 for some bounds, as one computed list with one conclusion. Every row
 -- is computed from the definitions that the calls' contracts cite; a call's answer is turned into plain numbers: of a refusal its number and its place, of a
 -- success 0 and its values.
 use Prim.Native.Nat.{ℕ, zero, suc, _+_, _-_}
@@ -58,6 +58,13 @@ use Rattle.sections.specs.declared.Sections.{Sections}
 use Rattle.sections.specs.Sections as sections
 use Rattle.load.specs.declared.Load.{Load}
 use Rattle.load.specs.Load as load
+use Rattle.schedule.specs.declared.NumberedTask.{NumberedTask}
+use Rattle.schedule.specs.declared.Schedule.{Schedule}
+use Rattle.schedule.specs.Schedules.{taskRule, known, taskNumbered, routeNumbered, scheduleOf}
+use Rattle.schedule_checks.specs.Checks as schedule-checks
+use Rattle.phase.specs.declared.Phase.{Phase}
+use Rattle.phase.specs.declared.Phase.the-variants as phases
+use Rattle.phase.specs.Phases.{phaseAfter, phaseFrom}
 
 -- ---- the chains
 
@@ -188,6 +195,27 @@ seeded s n = loadIs (load.loadOf s n .refusal .number) (load.loadOf s n)
 abbrev durations : ℕ → ℕ → List ℕ
 durations s n = map (λ (t : Task). t .duration) (take n (load.loadOf s n .chain .tasks))
 
+-- A schedule's task.
+abbrev numbered : ℕ → ℕ → ℕ → ℕ → NumberedTask
+numbered n t d f = record { number = n; task = task t d f }
+
+-- Chain A, with F for the first phase and a gap, as a schedule of tasks 1 and 2 and one chain.
+abbrev scheduleA : ℕ → ℕ → Schedule
+scheduleA f g = scheduleOf (numbered 1 4 4 f ∷ numbered 2 6 6 0 ∷ []) ((1 ∷ 2 ∷ []) ∷ []) g
+
+-- A task that fills two places of three.
+abbrev twice : Schedule
+twice = scheduleOf (numbered 3 10 3 7 ∷ numbered 9 20 5 0 ∷ []) ((3 ∷ 9 ∷ 3 ∷ []) ∷ []) 0
+
+abbrev long : Schedule
+long = scheduleOf (numbered 1 10001 4 0 ∷ numbered 2 6 6 0 ∷ []) ((1 ∷ 2 ∷ []) ∷ []) 0
+
+-- A phase is 0 and itself, and `none` is 1.
+abbrev phaseIs : Phase → List ℕ
+phaseIs (phases.Of f) = 0 ∷ f ∷ []
+phaseIs phases.Nothing = 1 ∷ []
+phaseIs (phases.Refused r) = r .number ∷ r .place ∷ []
+
 -- ---- the list
 
 unfoldable pub computed : List (List ℕ)
@@ -232,6 +260,10 @@ computed =
     ∷ draws 0 ∷ map load.periodOf (0 ∷ 1 ∷ 10 ∷ 11 ∷ 43 ∷ 44 ∷ 58 ∷ 59 ∷ 81 ∷ 82 ∷ 96 ∷ [])
     ∷ seeded 0 3 ∷ durations 0 3 ∷ seeded 0xDEADBEEF 4 ∷ seeded 0x61C8864680B583EB 1 ∷ seeded 18446744073709551615 4
     ∷ verdictIs (verdictOf (load.loadOf 18446744073709551615 12 .chain)) ∷ seeded 0 0 ∷ seeded 0 13
+    -- order 9 of document 02: chain A's second task with the least bound that a phase keeps, and one less; the same with a gap of 5; a task at two places; a task and a chain that are not there; and a period above 10,000
+    ∷ phaseIs (phaseFrom (scheduleA 0 0) 1 2 18) ∷ phaseIs (phaseFrom (scheduleA 0 0) 1 2 17) ∷ phaseIs (phaseFrom (scheduleA 9 5) 1 2 23) ∷ phaseIs (phaseFrom (scheduleA 9 5) 1 2 22)
+    ∷ phaseIs (phaseFrom twice 1 3 43) ∷ phaseIs (phaseFrom twice 1 3 42) ∷ phaseIs (phaseFrom twice 1 3 33) ∷ phaseIs (phaseFrom twice 1 3 32)
+    ∷ phaseIs (phaseFrom (scheduleA 0 0) 1 3 18) ∷ phaseIs (phaseFrom (scheduleA 0 0) 2 3 18) ∷ phaseIs (phaseFrom long 1 1 0) ∷ phaseIs (phaseFrom long 1 3 0)
     -- D
     ∷ warm D ∷ ticksOf (delayOf D 90) ∷ ticksOf (delayOf D 89)
     -- E: no place, 13 places, H at its limit and above
@@ -239,7 +271,7 @@ computed =
     ∷ verdictIs (verdictOf (E 768)) ∷ verdictIs (verdictOf (E 769))
     ∷ []
 
--- What the documents say, in the same order; the warm-ups of chain C with a gap follow from order 5, chain A with gap 7 from orders 5 and 6, the histograms of A and B from order 7 and the chains of seeds from order 8, which do not name them.
+-- What the documents say, in the same order; the warm-ups of chain C with a gap follow from order 5, chain A with gap 7 from orders 5 and 6, the histograms of A and B from order 7, the chains of seeds from order 8 and the phases from order 9, which do not name them.
 abbrev pub said : List (List ℕ)
 said =
     (0 ∷ 12 ∷ 0 ∷ 0 ∷ 1 ∷ [])
@@ -268,11 +300,14 @@ said =
     ∷ (0 ∷ 3 ∷ 10000 ∷ 8591 ∷ 10000 ∷ 7183 ∷ 40000 ∷ 26767 ∷ []) ∷ (10000 ∷ 10000 ∷ 40000 ∷ []) ∷ (0 ∷ 4 ∷ 10000 ∷ 8782 ∷ 20000 ∷ 46 ∷ 80000 ∷ 34910 ∷ 20000 ∷ 7822 ∷ [])
     ∷ (0 ∷ 1 ∷ 2500 ∷ 307 ∷ []) ∷ (0 ∷ 4 ∷ 10000 ∷ 8588 ∷ 10000 ∷ 7176 ∷ 40000 ∷ 26764 ∷ 40000 ∷ 34352 ∷ [])
     ∷ (0 ∷ 40000 ∷ []) ∷ (8 ∷ 0 ∷ 0 ∷ []) ∷ (8 ∷ 0 ∷ 0 ∷ [])
+    ∷ (0 ∷ 0 ∷ []) ∷ (1 ∷ []) ∷ (0 ∷ 0 ∷ []) ∷ (1 ∷ [])
+    ∷ (0 ∷ 0 ∷ []) ∷ (0 ∷ 5 ∷ []) ∷ (0 ∷ 5 ∷ []) ∷ (1 ∷ [])
+    ∷ (19 ∷ 0 ∷ []) ∷ (16 ∷ 0 ∷ []) ∷ (20 ∷ 0 ∷ []) ∷ (19 ∷ 0 ∷ [])
     ∷ (0 ∷ 10 ∷ 90 ∷ 9 ∷ 0 ∷ []) ∷ (0 ∷ 16 ∷ []) ∷ (12 ∷ 0 ∷ [])
     ∷ (8 ∷ 0 ∷ []) ∷ (8 ∷ 0 ∷ [])
     ∷ (0 ∷ 60000000 ∷ []) ∷ (7 ∷ 0 ∷ [])
     ∷ []
 
 pub survey : computed ≡ said
-unfolding computed withinLimits earliestFrom latestOver forwardLink backwardLink euclid gcdOf lcmOf forwardBy onLatest backwardBy hyperFrom firstFault hyperVerdict afterGap verdictFor leastFrom warmLast warmAt warmTick delayAt firstAged ageAt entries warmUpAfter spanAfter anchors spaced wellFormed read.reading read.delayAt read.lastAt greatest lowTo low total everyAbove longestRun ticks delaySum doubledArea exceedance greatestOf lowOf meanOf exceedanceOf rangeFrom keep fresh dropRepeats startOf endOf keeps anchorsFrom judged madeAfter writtenAfter spanOf misses missesIn largest mostMisses earliestJob windowsAfter padded sections.partsFrom sections.risesTo sum sections.sectionsAfter greatestLatency histogramOf countsOf load.drawOf load.periodOf load.drawnTask load.tasksFrom load.loadOf flatOf
+unfolding computed withinLimits earliestFrom latestOver forwardLink backwardLink euclid gcdOf lcmOf forwardBy onLatest backwardBy hyperFrom firstFault hyperVerdict afterGap verdictFor leastFrom warmLast warmAt warmTick delayAt firstAged ageAt entries warmUpAfter spanAfter anchors spaced wellFormed read.reading read.delayAt read.lastAt greatest lowTo low total everyAbove longestRun ticks delaySum doubledArea exceedance greatestOf lowOf meanOf exceedanceOf rangeFrom keep fresh dropRepeats startOf endOf keeps anchorsFrom judged madeAfter writtenAfter spanOf misses missesIn largest mostMisses earliestJob windowsAfter padded sections.partsFrom sections.risesTo sum sections.sectionsAfter greatestLatency histogramOf countsOf load.drawOf load.periodOf load.drawnTask load.tasksFrom load.loadOf flatOf taskRule known taskNumbered routeNumbered schedule-checks.countRight schedule-checks.placesRight schedule-checks.countsRight schedule-checks.firstFault schedule-checks.firstUnknown schedule-checks.unknownPlace schedule-checks.afterGap schedule-checks.faultOf schedule-checks.choiceOf schedule-checks.afterChoice phaseAfter
 survey = refl

@@ -38,7 +38,7 @@ mul-tasks-2 : tie.Need-mul-tasks-2 Inv-loop μ-loop
 mul-tasks-2 c = omega (arith, room c .0)
 
 slice-write-tasks : tie.Need-slice-write-tasks Inv-loop μ-loop
-slice-write-tasks c = room c .1
+slice-write-tasks c = omega (arith, room c .1)
 
 add-i : tie.Need-add-i Inv-loop μ-loop
 add-i c = omega (arith, room c .0)

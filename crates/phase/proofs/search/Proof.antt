@@ -1,12 +1,11 @@
 use native.Mathlib.Omega.{arith}
 use Prim.Native.Nat.{ℕ, _*_, _/_}
-use native.Mathlib.Nat.{div-le-self}
 use mathlib.Core.Path.{sym, ap, _∙_, subst}
 use lib.ListN.{length, length-map}
 use Rattle.task.specs.Jobs.{placeOf}
 use Rattle.chain.specs.Flat.{givenIn}
 use Rattle.phase.specs.InList.{Finds}
-use Rattle.phase.proofs.Tries.{longest-inside, longest-pos, tries-begin, longest-walked}
+use Rattle.phase.proofs.Tries.{longest-inside, longest-pos, quotient-fits, tries-begin, longest-walked}
 use borrow.Author.Needs.{needs}
 use Rattle.phase.proofs.search.Statement.{statement}
 use Rattle.phase.proofs.search.Tie as tie
@@ -24,7 +23,7 @@ div-from : tie.Need-div-from
 div-from c = let s = c .before .before .before .before .before .before .before in longest-pos (s .args .gap) (s .args .places .now) (givenIn (s .args .tasks .now)) (s .pre .0) _ (c .before .before .before .longest-place .ensures) _ (c .before .task-at .ensures)
 
 add-from : tie.Need-add-from
-add-from c = omega (arith, div-le-self 60011000 (c .before .task-at .result .period))
+add-from c = quotient-fits _ (c .before .task-at .result .period) (omega arith)
 
 slice-aggregate-reciprocals-of : tie.Need-slice-aggregate-reciprocals-of
 slice-aggregate-reciprocals-of c = search needs
@@ -39,7 +38,7 @@ slice-aggregate-try-phases : tie.Need-slice-aggregate-try-phases
 slice-aggregate-try-phases c = search needs
 
 try-phases-requires : tie.Need-try-phases-requires
-try-phases-requires c κs = let s = c .before .before .before .before .before .before .before .before .before .before .before .before .before .before in (tries-begin (s .args .gap) (s .args .places .now) (givenIn (s .args .tasks .now)) (s .pre .0) _ (c .before .before .before .before .before .before .before .before .before .before .longest-place .ensures) _ (c .before .before .before .before .before .before .before .before .task-at .ensures) (s .args .h) (s .pre .1) _ (c .before .before .before .before .reciprocals-of .ensures), s .pre .2)
+try-phases-requires c κs = let s = c .before .before .before .before .before .before .before .before .before .before .before .before .before .before in (tries-begin (s .args .gap) (s .args .places .now) (givenIn (s .args .tasks .now)) (s .pre .0) _ (c .before .before .before .before .before .before .before .before .before .before .longest-place .ensures) _ (c .before .before .before .before .before .before .before .before .task-at .ensures) (s .args .h) (s .pre .1) _ (omega arith) (omega arith) _ (c .before .before .before .before .reciprocals-of .ensures), s .pre .2)
 
 same-length : tie.Need-same-length
 same-length c = search needs

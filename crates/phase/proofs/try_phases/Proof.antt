@@ -72,7 +72,7 @@ returns c =
     let w = c .before .before .before .before in
     let s = w .before .before .before .before .before .before .before .before .before .before .before in
     let l = w .before .before .before .before .before .before .before .loop in
-    trying-found (s .args .gap) (s .args .places .now) (givenIn (s .args .tasks .now)) (s .args .number) (s .args .bound) (s .args .phases) (s .args .n) (l .tasks) (l .at) (l .stride) (l .walked) (l .phase) (l .inv .1) (w .before .before .before .before .before .before .loop-test .taken) _ (w .before .before .before .before .put-phase .ensures) _ (c .before .before .before .walk-round .ensures) (c .if1 .taken)
+    trying-found (s .args .gap) (s .args .places .now) (givenIn (s .args .tasks .now)) (s .args .number) (s .args .bound) (s .args .phases) (s .args .n) (l .tasks) (l .at) (l .stride) (l .walked) (l .phase) (l .inv .1) (w .before .before .before .before .before .before .loop-test .taken) _ (w .before .before .before .before .put-phase .ensures) _ (c .before .before .before .walk-round .ensures) (omega (arith, c .if1 .taken))
 
 sub-turned : tie.Need-sub-turned Inv-loop μ-loop
 sub-turned c = c .before .before .before .before .walk-round .ensures .some
