@@ -4,9 +4,7 @@ use native.Mathlib.Omega.{arith}
 use native.Mathlib.Decide.{decLe}
 use mathlib.Core.Path.{_≡_, sym, ap, _∙_}
 use mathlib.Core.List.{List}
-use lib.Dec.{leb}
 use lib.ListN.{length}
-use borrow.Author.Tests.{lt-leb}
 use Rattle.task.specs.declared.Place.{Place}
 use Rattle.chain.specs.Chains.{at}
 use Rattle.ranges.specs.Largest.{largest}
@@ -45,12 +43,6 @@ module _ (l : List Place) (p h : ℕ) (k : AcceptedAt l p h) where
   never-late r met = elim (decLe (r .latency) 60011000) [
     | yes few ↦ met .whole few
     | no more ↦ absurd (omega (arith, met .late (omega arith), greatest-fits l (k .sound)))
-  ]
-
-  pub kept-so : (bound : ℕ) (r : Greatest) → MetAll l p h bound r → leb (r .latency) bound ≡ leb (greatestLatency l) bound
-  kept-so bound r met = elim (decLe (r .latency) bound) [
-    | yes few ↦ ap (λ (x : Greatest). leb (x .latency) bound) (met .whole few)
-    | no more ↦ lt-leb (r .latency) bound (omega arith) ∙ sym (lt-leb (greatestLatency l) bound (met .late (omega arith)))
   ]
 
 pub met-round : (l : List Place) (places p m n bound : ℕ) (r : Greatest) → Round l places p m n → Met l p m n bound r → MetRound l n bound r

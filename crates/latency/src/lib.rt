@@ -6,14 +6,13 @@ use task::Job;
 use task::Place;
 use task::Tick;
 ghost use mathlib.Core.Path.{_≡_};
-ghost use lib.Dec.{leb};
 ghost use lib.ListN.{length};
 ghost use Prim.Native.Nat.{_-_, _≤_, _<_, max};
 ghost use Rattle.chain.specs.Flat.{tasksIn};
 ghost use Rattle.stepping.specs.Standing.{Reciprocals};
 ghost use Rattle.outset.specs.Range.{Range};
 ghost use Rattle.latency.specs.LongestPlace.{longestPlace};
-ghost use Rattle.latency.specs.Latency.{greatestLatency, AcceptedAt, greatestAt};
+ghost use Rattle.latency.specs.Latency.{AcceptedAt, greatestAt};
 ghost use Rattle.latency.specs.Walk.{Begins, Met, MetAll, Round, MetRound};
 
 // The greatest latency, and the number of partitions that were walked for it.
@@ -177,13 +176,4 @@ pub fn greatest_at(tasks: &[u64], gap: u64, p: usize, h: u64) -> Greatest
     ensures { λ r. ⌜ r ≡ greatestAt (tasksIn gap (now (tasks .entry))) p h ⌝ }
 {
     walk_range(tasks, gap, p, h, 60011000)
-}
-
-// Whether the greatest latency of an accepted list whose hyperperiod is h is at most the bound, walked at place p. The first partition above the bound ends the walk.
-pub fn keeps_at(tasks: &[u64], gap: u64, p: usize, h: u64, bound: u64) -> bool
-    requires { ⌜ AcceptedAt (tasksIn gap (now tasks)) p h ⌝ }
-    ensures { λ r. ⌜ r ≡ leb (greatestLatency (tasksIn gap (now (tasks .entry)))) bound ⌝ }
-{
-    let found = walk_range(tasks, gap, p, h, bound);
-    found.latency <= bound
 }
