@@ -45,9 +45,10 @@
  * mo_sections walks, of each section, h / T partitions, h being the section's own hyperperiod and T its longest period, and makes no list.
  * A partition costs each of the section's places once, so however a chain is cut, at most 0.05 s: 3,063,060 partitions of twelve places.
  * Cuts cost nothing: the first that is out of order ends the look at them, so no more than twelve are read.
- * mo_smallest_phase tries at most as many phases as the greatest common divisor of the task's period and the least common multiple of the other
- * periods of the chain, and a try ends at the first partition that is longer than the bound. All tries together walk at most h partitions, which
- * is proved; that many would take 1 s at twelve places. Each try begins where the one before ended, so nearly all end at once: PHASE_TIMES
+ * mo_smallest_phase tries at most as many phases as the greatest common divisor of the task's period and the least common multiple of the
+ * chain's other periods, so 10,000 at most, and a try ends at its first partition above the bound. A try divides once or twice at each place.
+ * All tries together walk at most h partitions, which is proved; so many would take 1 s at twelve places. A try begins where such a partition is
+ * likely: of some thousands of drawn schedules the worst walked 90,971, in 1.5 ms, and no other took longer.
  * (One run on a server's processor; an instrument's takes longer.) Nothing else that is lent makes a call take long.
  *
  * Stack. What each call needs below its caller's frame, in bytes, is MO_STACK_ below: measured on x86-64 and rounded up, not proved. The C
