@@ -45,10 +45,11 @@
  * mo_sections walks, of each section, h / T partitions, h being the section's own hyperperiod and T its longest period, and makes no list.
  * A partition costs each of the section's places once, so however a chain is cut, at most 0.05 s: 3,063,060 partitions of twelve places.
  * Cuts cost nothing: the first that is out of order ends the look at them, so no more than twelve are read.
- * mo_smallest_phase tries at most as many phases as the greatest common divisor of the task's period and the least common multiple of the
- * chain's other periods, so 10,000 at most, and a try ends at its first partition above the bound. A try divides once or twice at each place.
- * All tries together walk at most h partitions, which is proved; so many would take 1 s at twelve places. A try begins where such a partition is
- * likely: of some thousands of drawn schedules the worst walked 90,971, in 1.5 ms, and no other took longer.
+ * mo_smallest_phase tries the phases below the greatest common divisor of the task's period and the least common multiple of the periods of the
+ * chain's other tasks, so 10,000 at most, and a try ends at its first partition above the bound. A try divides once or twice at each place. The
+ * partitions of all tries are counted in the code, and that count is proved to be at most h, which would take 1 s at twelve places. A try begins
+ * where such a partition is likely: most searches take some milliseconds at most, and the longest that was seen 0.2 s, for 13,029,065 partitions
+ * at ten places.
  * (One run on a server's processor; an instrument's takes longer.) Nothing else that is lent makes a call take long.
  *
  * Stack. What each call needs below its caller's frame, in bytes, is MO_STACK_ below: measured on x86-64 and rounded up, not proved. The C
@@ -446,13 +447,12 @@ uint64_t mo_bookings(const uint64_t *tasks, size_t tasks_length, size_t count,
 /*
  * A phase that keeps a promise: of the task with a number, the smallest phase from 0 to its period - 1 with which the greatest latency of chain
  * `chain`, counted from 1, is at most bound, which may be any number. Every place that the task fills has that phase then, in every chain; only
- * this chain is looked at. phase becomes it, and none 0; where there is no such phase none becomes 1 and phase 0. What the task's phase is now
- * does not count, nor need it be below the period.
+ * this chain is looked at. phase becomes it, and none 0; where there is no such phase none becomes 1 and phase 0. The phase that the task has now
+ * is judged as every value is, and else makes no difference.
  *
- * With that phase written into its entry of tasks the schedule passes every check that it passed before, no press by that chain waits longer than
- * bound (mo_delay, from the warm-up tick on), and mo_greatest of the chain's table is at most bound; with every smaller phase some press waits
- * longer. Phases from the period on add nothing: each is as good as its remainder by the period, so where none is 1 no phase at all keeps the
- * bound. That is proved (crates/phase, crates/capi_phase).
+ * With that phase written into its entry of tasks, or any other up to 1,000,000, the schedule passes every check that it passed before. With that
+ * phase no press by this chain waits longer than bound, from its warm-up tick on; with every smaller one some press does. Phases from the period
+ * on add nothing: where none is 1, some press waits longer with each phase up to 1,000,000. That is proved (crates/phase, crates/capi_phase).
  *
  * Refuses, after the schedule's own refusals, the first that applies, all at place 0:
  *   MO_CHAIN_UNKNOWN          chain is 0 or above chain_count;

@@ -377,7 +377,8 @@ pub fn all() -> Vec<Case> {
         cases.push(phase("two equal", &equal, &[1, 2, 3], 0, 1, bound));
     }
     let drawn = |fields: &[[u64; 3]]| fields.iter().map(|&[period, duration, phase]| Task { period, duration, phase }).collect::<Vec<Task>>();
-    // Of some thousands of drawn schedules those for which the walks are longest: with these tries, without a guess of where to begin, and at twelve places.
+    // Of some ten thousands of drawn schedules: the one with the longest walks that was found, the longest of another set, one in which the walks would be long without a stride, and one at twelve places.
+    cases.push(phase("drawn", &drawn(&[[9994, 11_522, 8840], [4997, 2032, 4480], [9994, 7335, 7299], [5224, 10_128, 1059]]), &[1, 1, 1, 1, 4, 2, 2, 1, 4, 4], 365, 1, 152_842));
     cases.push(phase("drawn", &drawn(&[[7560, 3076, 1924], [1396, 1268, 882], [7560, 3324, 4257]]), &[2, 1, 1, 3, 1, 1], 105, 1, 36_080));
     cases.push(phase("drawn", &drawn(&[[9240, 2674, 7308], [165, 161, 133], [4999, 49, 1166], [9240, 258, 9075]]), &[3, 1, 1, 4, 2, 1, 1, 2, 4, 1], 0, 1, 53_920));
     cases.push(phase("drawn", &drawn(&[[9984, 7856, 7026], [5987, 3643, 626], [9984, 7762, 2698]]), &[3, 1, 2, 1, 2, 3, 1, 2, 2, 1, 2, 3], 716, 3, 127_570));

@@ -11,7 +11,7 @@ use Rattle.phase.specs.declared.Phase.{Phase}
 use Rattle.phase.specs.declared.Phase.the-variants.{Of, Nothing, Refused}
 use Rattle.phase.specs.Phases.{keepsBound, periodOf, phaseFrom}
 use Rattle.phase.specs.Search.{SmallestPhase, NoPhase}
-use Rattle.phase.specs.Smallest.{Asked, smallest-phase, none-exactly}
+use Rattle.phase.specs.Smallest.{Passed, smallest-phase, none-exactly}
 use Rattle.phase.specs.Refusals.{SmallPhase, refusals-small}
 use Rattle.capi_phase.specs.Calls.{phaseNumbers, GivesPhase}
 
@@ -20,30 +20,30 @@ entry : (i : ℕ) {l m : List ℕ} → l ≡ m → getD l i 0 ≡ getD m i 0
 entry i e = ap (λ (x : List ℕ). getD x i 0) e
 
 module _ (s : Schedule) (n number bound code phase none : ℕ) (gives : GivesPhase s n number bound code phase none) where
-  pub found-for-c : code ≡ 0 → none ≡ 0 → Asked s n number × SmallestPhase (keepsBound s n number bound) (periodOf s number) phase
+  pub found-for-c : code ≡ 0 → none ≡ 0 → Passed s n number × SmallestPhase (keepsBound s n number bound) (periodOf s number) phase
   found-for-c fine some = go (phaseFrom s n number bound) refl gives (refusals-small s n number bound)
     where
       go : (p : Phase) → phaseFrom s n number bound ≡ p → (code ∷ phase ∷ none ∷ []) ≡ phaseNumbers p → SmallPhase p
-          → Asked s n number × SmallestPhase (keepsBound s n number bound) (periodOf s number) phase
+          → Passed s n number × SmallestPhase (keepsBound s n number bound) (periodOf s number) phase
       go (Of F) e g k = smallest-phase s n number bound phase .0 (e ∙ ap Of (sym (entry 1 g)))
       go Nothing e g k = absurd (omega (arith, entry 2 g))
       go (Refused r) e g k = absurd (omega (arith, entry 0 g, k .0))
 
-  pub none-for-c : none ≡ 1 → (code ≡ 0) × Asked s n number × NoPhase (keepsBound s n number bound) (periodOf s number)
+  pub none-for-c : none ≡ 1 → (code ≡ 0) × Passed s n number × NoPhase (keepsBound s n number bound) (periodOf s number)
   none-for-c some = go (phaseFrom s n number bound) refl gives
     where
       go : (p : Phase) → phaseFrom s n number bound ≡ p → (code ∷ phase ∷ none ∷ []) ≡ phaseNumbers p
-          → (code ≡ 0) × Asked s n number × NoPhase (keepsBound s n number bound) (periodOf s number)
+          → (code ≡ 0) × Passed s n number × NoPhase (keepsBound s n number bound) (periodOf s number)
       go (Of F) e g = absurd (omega (arith, entry 2 g))
       go Nothing e g = let k = none-exactly s n number bound .0 e in (entry 0 g, k .0, k .1)
       go (Refused r) e g = absurd (omega (arith, entry 2 g))
 
-  pub smallest-for-c : (F : ℕ) → Asked s n number → SmallestPhase (keepsBound s n number bound) (periodOf s number) F → (code ≡ 0) × (phase ≡ F) × (none ≡ 0)
+  pub smallest-for-c : (F : ℕ) → Passed s n number → SmallestPhase (keepsBound s n number bound) (periodOf s number) F → (code ≡ 0) × (phase ≡ F) × (none ≡ 0)
   smallest-for-c F a k =
       let g : (code ∷ phase ∷ none ∷ []) ≡ 0 ∷ F ∷ 0 ∷ [] = gives ∙ ap phaseNumbers (smallest-phase s n number bound F .1 (a, k)) in
       (entry 0 g, entry 1 g, entry 2 g)
 
-  pub no-phase-for-c : Asked s n number → NoPhase (keepsBound s n number bound) (periodOf s number) → (code ≡ 0) × (phase ≡ 0) × (none ≡ 1)
+  pub no-phase-for-c : Passed s n number → NoPhase (keepsBound s n number bound) (periodOf s number) → (code ≡ 0) × (phase ≡ 0) × (none ≡ 1)
   no-phase-for-c a k =
       let g : (code ∷ phase ∷ none ∷ []) ≡ 0 ∷ 0 ∷ 1 ∷ [] = gives ∙ ap phaseNumbers (none-exactly s n number bound .1 (a, k)) in
       (entry 0 g, entry 1 g, entry 2 g)

@@ -1,19 +1,17 @@
--- The phase written into the task's own entry of the lists gives the moved schedule (`written-same`). So with the phase that mo_smallest_phase gives, written there, the schedule passes every check that it passed, and no press
--- by the chain waits longer than the bound (`kept-for-c`).
+-- A phase written into the task's own entry of the lists gives the moved schedule (`written-same`). So with any permitted phase written there the schedule passes every check that it passed (`same-choices`, `same-verdicts`); with the one
+-- that mo_smallest_phase gives no press by the chain waits longer than the bound (`kept-for-c`), with every smaller one some press does (`broken-for-c`), and so with every one where there is none (`none-at-all-for-c`).
 use Prim.Native.Nat.{ℕ, zero, suc, _+_, _-_, _*_, _≤_, _<_}
 use native.Mathlib.Omega.{arith}
 use native.Mathlib.Decide.{decLt, ℕ-discrete}
 use mathlib.Core.Path.{_≡_, refl, sym, ap, _∙_, subst}
-use mathlib.Core.Bool.{true, cond}
+use mathlib.Core.Bool.{true, false, cond}
 use mathlib.Core.List.{List, [], _∷_, map}
 use lib.Dec.{eqb}
 use lib.ListN.{length, getD, set, take, length-set, length-map}
 use lib.Seq.{ext-getD, getD-take, length-take-le, getD-set-same, getD-set-other}
 use borrow.Author.Tests.{eq-eqb, ne-eqb, le-leb, leb-true}
-use Rattle.refusal.specs.Refusals.{none}
 use Rattle.ranges.specs.Entries.{entries-at, entries-length}
 use Rattle.chain.specs.declared.Chain.{Chain}
-use Rattle.chain.specs.declared.Verdict.the-variants.{Accepted}
 use Rattle.chain.specs.Chains.{tasksOf}
 use Rattle.chain.specs.Checks.{verdictOf}
 use Rattle.schedule.specs.declared.NumberedTask.{NumberedTask}
@@ -30,12 +28,12 @@ use Rattle.timing.specs.Delay.{delayAt}
 use Rattle.latency.specs.Latency.{greatestLatency}
 use Rattle.phase.specs.Phases.{phased, withPhase, moved, keepsBound, periodOf}
 use Rattle.phase.specs.Search.{SmallestPhase}
-use Rattle.phase.specs.Smallest.{Asked, kept}
-use Rattle.phase.specs.MovedSchedule.{moved-choice, moved-verdict}
+use Rattle.phase.specs.Smallest.{LatePress, Passed, kept, broken, none-exactly, none-at-all}
+use Rattle.phase.specs.MovedSchedule.{moved-choices, moved-verdict}
 use Rattle.capi_schedule.specs.FlatSchedule.{numberedAt, tasksFrom, countFrom, scheduleFrom}
 use Rattle.capi_schedule.specs.GivenBack.{from-arrays, count-fits, count-is}
 use Rattle.capi_phase.specs.Calls.{GivesPhase}
-use Rattle.capi_phase.specs.EveryBound.{found-for-c}
+use Rattle.capi_phase.specs.EveryBound.{found-for-c, none-for-c}
 
 -- ---- the numbers of a sound schedule's tasks rise
 
@@ -56,6 +54,11 @@ map-there : {A B : Type 0} (f : A → B) (l : List A) (i : ℕ) (d : A) (e : B) 
 map-there f [] i d e h = absurd (omega arith)
 map-there f (x ∷ l) zero d e h = refl
 map-there f (x ∷ l) (suc i) d e h = map-there f l i d e (omega arith)
+
+-- The chain's greatest latency is at most the bound, and no press from its warm-up tick on waits longer.
+pub record KeptForC (w : Schedule) (n bound : ℕ) : Type 0 where
+  pub latency : greatestLatency (tasksOf (chainAt w n)) ≤ bound
+  pub delays : (t : ℕ) → warmTick (tasksOf (chainAt w n)) ≤ t → delayAt (tasksOf (chainAt w n)) t ≤ bound
 
 -- ---- the task at position i, counted from 0, gets phase F
 
@@ -135,28 +138,60 @@ module _ (tasks : List ℕ) (count : ℕ) (chains places : List ℕ) (total gap 
     pub written-same : SameSchedule written (moved s number F)
     written-same = record { count = count-same; chains = refl; tasks = tasks-same; places = refl; numbers = refl; gap = refl }
 
--- With the phase found, written into the task's entry: chain n is chosen and accepted as before, its greatest latency is at most the bound, and no press from its warm-up tick on waits longer.
-pub record KeptForC (w : Schedule) (n hyper bound : ℕ) : Type 0 where
-  pub chosen : choiceOf w n ≡ none
-  pub accepted : verdictOf (chainAt w n) ≡ Accepted hyper
-  pub latency : greatestLatency (tasksOf (chainAt w n)) ≤ bound
-  pub delays : (t : ℕ) → warmTick (tasksOf (chainAt w n)) ≤ t → delayAt (tasksOf (chainAt w n)) t ≤ bound
+-- ---- what the numbers of mo_smallest_phase say of the lists with a phase written into them
 
-module _ (tasks : List ℕ) (count : ℕ) (chains places : List ℕ) (total gap n bound code phase no i : ℕ) where
-  pub kept-for-c : GivesPhase (s tasks count chains places total gap i phase) n (number tasks count chains places total gap i phase) bound code phase no → code ≡ 0 → no ≡ 0 → i < s tasks count chains places total gap i phase .count
-      → (h : ℕ) → verdictOf (chainAt (s tasks count chains places total gap i phase) n) ≡ Accepted h → KeptForC (written tasks count chains places total gap i phase) n h bound
-  kept-for-c gives fine some here h e =
-      let u : Schedule = scheduleFrom tasks count chains places total gap in
-      let m : ℕ = getD tasks (4 * i) 0 in
-      let a : Arrays u = from-arrays tasks count chains places total gap in
-      let found = found-for-c u n m bound code phase no gives fine some in
-      let k = choice-sound u n (found .0 .chosen) in
-      let small : phase ≤ 1000000 = omega (arith, found .1 .below, found .0 .short) in
-      let same = written-same tasks count chains places total gap i phase (k .0 .few) (k .0 .tasks-right) here in
-      let is : chainAt (written tasks count chains places total gap i phase) n ≡ chainAt (moved u m phase) n = chain-same (written tasks count chains places total gap i phase) (moved u m phase) same n in
-      record {
-        chosen = choice-same (written tasks count chains places total gap i phase) (moved u m phase) same n ∙ moved-choice u m phase n a small (found .0 .chosen);
-        accepted = ap verdictOf is ∙ moved-verdict u m phase n a (k .0) (k .1) (k .2) small ∙ e;
-        latency = subst (λ (c : Chain). greatestLatency (tasksOf c) ≤ bound) (sym is) (leb-true (greatestLatency (tasksOf (chainAt (moved u m phase) n))) bound (found .1 .passes));
-        delays = subst (λ (c : Chain). (t : ℕ) → warmTick (tasksOf c) ≤ t → delayAt (tasksOf c) t ≤ bound) (sym is) (kept u a n m (found .0) phase small bound (found .1 .passes));
-      }
+module _ (tasks : List ℕ) (count : ℕ) (chains places : List ℕ) (total gap i : ℕ) (here : i < scheduleFrom tasks count chains places total gap .count) where
+  abbrev u : Schedule
+  u = scheduleFrom tasks count chains places total gap
+
+  abbrev m : ℕ
+  m = getD tasks (4 * i) 0
+
+  -- the schedule of the lists with phase F written into the entry of task i
+  abbrev with : ℕ → Schedule
+  with F = scheduleFrom (set tasks (4 * i + 3) F) count chains places total gap
+
+  a : Arrays u
+  a = from-arrays tasks count chains places total gap
+
+  same : (F : ℕ) → SoundSchedule u → SameSchedule (with F) (moved u m F)
+  same F k = written-same tasks count chains places total gap i F (k .few) (k .tasks-right) here
+
+  same-chain : (F n : ℕ) → SoundSchedule u → chainAt (with F) n ≡ chainAt (moved u m F) n
+  same-chain F n k = chain-same (with F) (moved u m F) (same F k) n
+
+  -- A sound schedule is so with every permitted phase: every chain number is chosen or refused as before,
+  pub same-choices : (F : ℕ) → F ≤ 1000000 → SoundSchedule u → (n : ℕ) → choiceOf (scheduleFrom (set tasks (4 * i + 3) F) count chains places total gap) n ≡ choiceOf (scheduleFrom tasks count chains places total gap) n
+  same-choices F small k n = choice-same (with F) (moved u m F) (same F k) n ∙ moved-choices u m F small k n
+
+  -- and 7 says of every chain what it said.
+  pub same-verdicts : (F : ℕ) → F ≤ 1000000 → SoundSchedule u → (n : ℕ) → 1 ≤ n → n ≤ u .chains
+      → verdictOf (chainAt (scheduleFrom (set tasks (4 * i + 3) F) count chains places total gap) n) ≡ verdictOf (chainAt (scheduleFrom tasks count chains places total gap) n)
+  same-verdicts F small k n low high = ap verdictOf (same-chain F n k) ∙ moved-verdict u m F n a k low high small
+
+  late-press : (F n bound : ℕ) → F ≤ 1000000 → Passed u n m → keepsBound u n m bound F ≡ false → LatePress (tasksOf (chainAt (with F) n)) bound
+  late-press F n bound small k e = subst (λ (c : Chain). LatePress (tasksOf c) bound) (sym (same-chain F n (choice-sound u n (k .chosen) .0))) (broken u a n m k F small bound e)
+
+  module _ (n bound code phase no : ℕ) (gives : GivesPhase (scheduleFrom tasks count chains places total gap) n (getD tasks (4 * i) 0) bound code phase no) where
+    -- With the phase found the greatest latency of the chain is at most the bound, and no press from its warm-up tick on waits longer;
+    pub kept-for-c : code ≡ 0 → no ≡ 0 → KeptForC (scheduleFrom (set tasks (4 * i + 3) phase) count chains places total gap) n bound
+    kept-for-c fine some =
+        let found = found-for-c u n m bound code phase no gives fine some in
+        let k = choice-sound u n (found .0 .chosen) .0 in
+        let small : phase ≤ 1000000 = omega (arith, found .1 .below, found .0 .short) in
+        record {
+          latency = subst (λ (c : Chain). greatestLatency (tasksOf c) ≤ bound) (sym (same-chain phase n k)) (leb-true (greatestLatency (tasksOf (chainAt (moved u m phase) n))) bound (found .1 .passes));
+          delays = subst (λ (c : Chain). (t : ℕ) → warmTick (tasksOf c) ≤ t → delayAt (tasksOf c) t ≤ bound) (sym (same-chain phase n k)) (kept u a n m (found .0) phase small bound (found .1 .passes));
+        }
+
+    -- with every smaller phase some press does;
+    pub broken-for-c : code ≡ 0 → no ≡ 0 → (E : ℕ) → E < phase → LatePress (tasksOf (chainAt (scheduleFrom (set tasks (4 * i + 3) E) count chains places total gap) n)) bound
+    broken-for-c fine some E h =
+        let found = found-for-c u n m bound code phase no gives fine some in
+        late-press E n bound (omega (arith, found .1 .below, found .0 .short)) (found .0) (found .1 .smallest E h)
+
+    -- and where none is found some press does with every permitted phase, also from the period on.
+    pub none-at-all-for-c : no ≡ 1 → (F : ℕ) → F ≤ 1000000 → LatePress (tasksOf (chainAt (scheduleFrom (set tasks (4 * i + 3) F) count chains places total gap) n)) bound
+    none-at-all-for-c some F small =
+        let none = none-for-c u n m bound code phase no gives some in
+        late-press F n bound small (none .1) (none-at-all u a n m bound (none-exactly u n m bound .1 (none .1, none .2)) F small)

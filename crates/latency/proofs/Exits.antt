@@ -16,7 +16,7 @@ use Rattle.latency.specs.Latency.{greatestLatency, latencyOf, AcceptedAt
 use Rattle.latency.specs.GreatestDelay.{greatest-fits}
 use Rattle.latency.specs.AnyCut.{any-cut}
 use Rattle.latency.specs.AnyRange.{any-range}
-use Rattle.latency.specs.Walk.{Met, MetAll, Round, MetRound}
+use Rattle.latency.specs.Walk.{Met, MetAll, RangeFrom, MetFrom}
 
 module _ (l : List Place) (p h : ℕ) (k : AcceptedAt l p h) where
   module _ (m n : ℕ) (w : m ≡ warmAt l p) (u : n ≡ h / at l p .period) where
@@ -45,8 +45,15 @@ module _ (l : List Place) (p h : ℕ) (k : AcceptedAt l p h) where
     | no more ↦ absurd (omega (arith, met .late (omega arith), greatest-fits l (k .sound)))
   ]
 
-pub met-round : (l : List Place) (places p m n bound : ℕ) (r : Greatest) → Round l places p m n → Met l p m n bound r → MetRound l n bound r
-met-round l places p m n bound r k met =
+pub met-from : (l : List Place) (places p m n bound : ℕ) (r : Greatest) → RangeFrom l places p m n → Met l p m n bound r → MetFrom l p m n bound r
+met-from l places p m n bound r k met =
     let e : largest (latencyOf l p) m n ≡ greatestLatency l
     = ap (largest (latencyOf l p) m) (k .whole) ∙ any-range l (k .range .sound) p (omega (arith, k .range .inside, k .range .places-are)) m (k .range .warm) in
-    record { whole = λ few. met .whole few .0 ∙ e; late = λ more. omega (arith, met .late more); some = met .some; few = met .few }
+    record {
+      whole = λ few. let w = met .whole few in (w .0 ∙ e, w .1);
+      late = λ more. omega (arith, met .late more);
+      some = met .some;
+      few = met .few;
+      counted = met .counted;
+      before = met .before;
+    }

@@ -5,7 +5,7 @@ use mathlib.Core.Path.{_≡_, sym, ap, _∙_}
 use mathlib.Core.List.{List}
 use Rattle.task.specs.declared.Place.{Place}
 use Rattle.ranges.specs.Largest.{largest}
-use Rattle.ranges.specs.LargestLaws.{largest-one, largest-next, largest-some}
+use Rattle.ranges.specs.LargestLaws.{largest-none, largest-one, largest-next, largest-some}
 use Rattle.partition.specs.declared.Partition.{Partition}
 use Rattle.partition.specs.Partitions.{IsPartition}
 use Rattle.partition.proofs.Bounds.{start-end, own}
@@ -16,11 +16,12 @@ use Rattle.outset.specs.Range.{Range, stands-at, range-in, range-steps}
 use Rattle.latency.specs.Latency.{latencyOf}
 use Rattle.latency.specs.Walk.{Begins, Met}
 
--- walked partitions from m on have this largest latency, and the state stands at the last of them
-pub record Walking (t : List Place) (p n m : ℕ) (state : List ℕ) (walked latency : ℕ) : Type 0 where
+-- walked partitions from m on have this largest latency, those before the last one are not above the bound, and the state stands at the last of them
+pub record Walking (t : List Place) (p n m bound : ℕ) (state : List ℕ) (walked latency : ℕ) : Type 0 where
   pub low : 1 ≤ walked
   pub high : walked ≤ n
   pub is : latency ≡ largest (latencyOf t p) m walked
+  pub before : largest (latencyOf t p) m (walked - 1) ≤ bound
   pub stands : Standing t p (m + (walked - 1)) state
 
 -- a partition's latency
@@ -34,23 +35,23 @@ module _ (t : List Place) (places p m n : ℕ) (w : Range t places p m n) where
 
   module _ (bound : ℕ) where
     -- where every partition was walked, or a latency is above the bound
-    pub met-all : (state : List ℕ) (walked latency : ℕ) → Walking t p n m state walked latency → n ≤ walked → Met t p m n bound (record { latency = latency; walked = walked })
+    pub met-all : (state : List ℕ) (walked latency : ℕ) → Walking t p n m bound state walked latency → n ≤ walked → Met t p m n bound (record { latency = latency; walked = walked })
     met-all state walked latency k all =
         let e : walked ≡ n = omega (arith, k .high) in
         let f : latency ≡ largest (latencyOf t p) m n = k .is ∙ ap (largest (latencyOf t p) m) e in
-        record { whole = λ h. (f, e); late = λ h. omega arith; some = k .low; few = k .high }
+        record { whole = λ h. (f, e); late = λ h. omega arith; some = k .low; few = k .high; counted = k .is; before = k .before }
 
-    pub met-late : (state : List ℕ) (walked latency : ℕ) → Walking t p n m state walked latency → bound < latency → Met t p m n bound (record { latency = latency; walked = walked })
+    pub met-late : (state : List ℕ) (walked latency : ℕ) → Walking t p n m bound state walked latency → bound < latency → Met t p m n bound (record { latency = latency; walked = walked })
     met-late state walked latency k over =
-        record { whole = λ h. absurd (omega arith); late = λ h. omega (arith, k .is, largest-some (latencyOf t p) walked n m (k .high)); some = k .low; few = k .high }
+        record { whole = λ h. absurd (omega arith); late = λ h. omega (arith, k .is, largest-some (latencyOf t p) walked n m (k .high)); some = k .low; few = k .high; counted = k .is; before = k .before }
 
   -- the first partition
-  pub walking-start : (state : List ℕ) (x : Partition) → IsPartition t p m x → Standing t p m state → (latency : ℕ) → latency ≡ x .end .0 - x .start .0 → Walking t p n m state 1 latency
-  walking-start state x i st latency e =
+  pub walking-start : (bound : ℕ) (state : List ℕ) (x : Partition) → IsPartition t p m x → Standing t p m state → (latency : ℕ) → latency ≡ x .end .0 - x .start .0 → Walking t p n m bound state 1 latency
+  walking-start bound state x i st latency e =
       let z : m + (1 - 1) ≡ m = omega arith in
-      record { low = omega arith; high = w .some; is = span t p m x i latency e ∙ sym (largest-one (latencyOf t p) m); stands = rw z st }
+      record { low = omega arith; high = w .some; is = span t p m x i latency e ∙ sym (largest-one (latencyOf t p) m); before = rw (largest-none (latencyOf t p) m) (omega arith); stands = rw z st }
 
-  module _ (state : List ℕ) (walked latency : ℕ) (k : Walking t p n m state walked latency) (more : walked < n) where
+  module _ (bound : ℕ) (state : List ℕ) (walked latency : ℕ) (k : Walking t p n m bound state walked latency) (more : walked < n) where
     pub walking-steps : (r : List ℕ) → Reciprocals t r → Steps t places p r state
     walking-steps r rs = range-steps t places p m n w (walked - 1) (omega (arith, k .low)) r state rs (k .stands)
 
@@ -70,14 +71,16 @@ module _ (t : List Place) (places p m n : ℕ) (w : Range t places p m n) where
       pub next-ordered : x .start .0 ≤ x .end .0
       next-ordered = ordered walked x next-is
 
-      pub walking-turn : (span′ latency′ : ℕ) → span′ ≡ x .end .0 - x .start .0 → latency′ ≡ max latency span′ → Walking t p n m state′ (walked + 1) latency′
-      walking-turn span′ latency′ e f =
+      pub walking-turn : latency ≤ bound → (span′ latency′ : ℕ) → span′ ≡ x .end .0 - x .start .0 → latency′ ≡ max latency span′ → Walking t p n m bound state′ (walked + 1) latency′
+      walking-turn fits span′ latency′ e f =
           let z : m + (walked + 1 - 1) ≡ m + walked = omega arith in
+          let y : walked + 1 - 1 ≡ walked = omega arith in
           let g : span′ ≡ latencyOf t p (m + walked) = span t p (m + walked) x next-is span′ e in
           record {
             low = omega arith;
             high = omega arith;
             is = f ∙ ap (λ (y : ℕ). max y span′) (k .is) ∙ ap (max (largest (latencyOf t p) m walked)) g ∙ sym (largest-next (latencyOf t p) walked m);
+            before = rw y (omega (arith, k .is));
             stands = rw z next-job;
           }
 
@@ -96,26 +99,26 @@ module _ (t : List Place) (places p n : ℕ) (first : Partition) (state₀ : Lis
   pub begins-ordered : first .start .0 ≤ first .end .0
   begins-ordered = let z : first .job .0 + 0 ≡ first .job .0 = omega arith in ordered t places p (first .job .0) n (b .range) 0 first (rw z (b .is))
 
-  pub begins-start : (latency : ℕ) → latency ≡ first .end .0 - first .start .0 → Walking t p n m state₀ 1 latency
-  begins-start latency e = walking-start t places p m n range state₀ first (rw job-is (b .is)) (rw job-is (b .stands)) latency e
+  pub begins-start : (bound latency : ℕ) → latency ≡ first .end .0 - first .start .0 → Walking t p n m bound state₀ 1 latency
+  begins-start bound latency e = walking-start t places p m n range bound state₀ first (rw job-is (b .is)) (rw job-is (b .stands)) latency e
 
-  module _ (state : List ℕ) (walked latency : ℕ) (k : Walking t p n m state walked latency) where
-    pub begins-all : (bound : ℕ) → n ≤ walked → Met t p (first .job .0) n bound (record { latency = latency; walked = walked })
-    begins-all bound all = rw job-is at (met-all t places p m n range bound state walked latency k all)
+  module _ (bound : ℕ) (state : List ℕ) (walked latency : ℕ) (k : Walking t p n m bound state walked latency) where
+    pub begins-all : n ≤ walked → Met t p (first .job .0) n bound (record { latency = latency; walked = walked })
+    begins-all all = rw job-is at (met-all t places p m n range bound state walked latency k all)
 
-    pub begins-late : (bound : ℕ) → bound < latency → Met t p (first .job .0) n bound (record { latency = latency; walked = walked })
-    begins-late bound over = rw job-is at (met-late t places p m n range bound state walked latency k over)
+    pub begins-late : bound < latency → Met t p (first .job .0) n bound (record { latency = latency; walked = walked })
+    begins-late over = rw job-is at (met-late t places p m n range bound state walked latency k over)
 
     module _ (more : walked < n) where
       pub begins-steps : (r : List ℕ) → Reciprocals t r → Steps t places p r state
-      begins-steps = walking-steps t places p m n range state walked latency k more
+      begins-steps = walking-steps t places p m n range bound state walked latency k more
 
       module _ (state′ : List ℕ) (x : Partition) (st : Stepped t p state state′ x) where
         pub begins-next : x .start .0 ≤ x .end .0
-        begins-next = next-ordered t places p m n range state walked latency k more state′ x st
+        begins-next = next-ordered t places p m n range bound state walked latency k more state′ x st
 
-        pub begins-turn : (span′ latency′ : ℕ) → span′ ≡ x .end .0 - x .start .0 → latency′ ≡ max latency span′ → Walking t p n m state′ (walked + 1) latency′
-        begins-turn = walking-turn t places p m n range state walked latency k more state′ x st
+        pub begins-turn : latency ≤ bound → (span′ latency′ : ℕ) → span′ ≡ x .end .0 - x .start .0 → latency′ ≡ max latency span′ → Walking t p n m bound state′ (walked + 1) latency′
+        begins-turn = walking-turn t places p m n range bound state walked latency k more state′ x st
 
 -- ---- from a job on
 
@@ -125,4 +128,4 @@ module _ (t : List Place) (places p m n : ℕ) (w : Range t places p m n) (state
 
   -- where there is one partition alone
   pub first-alone : n < 2 → (bound latency : ℕ) → latency ≡ x .end .0 - x .start .0 → Met t p m n bound (record { latency = latency; walked = 1 })
-  first-alone few bound latency e = met-all t places p m n w bound state 1 latency (walking-start t places p m n w state x (fi .partition) (fi .stands) latency e) (omega arith)
+  first-alone few bound latency e = met-all t places p m n w bound state 1 latency (walking-start t places p m n w bound state x (fi .partition) (fi .stands) latency e) (omega arith)

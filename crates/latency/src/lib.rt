@@ -13,7 +13,7 @@ ghost use Rattle.stepping.specs.Standing.{Reciprocals};
 ghost use Rattle.outset.specs.Range.{Range};
 ghost use Rattle.latency.specs.LongestPlace.{longestPlace};
 ghost use Rattle.latency.specs.Latency.{AcceptedAt, greatestAt};
-ghost use Rattle.latency.specs.Walk.{Begins, Met, MetAll, Round, MetRound};
+ghost use Rattle.latency.specs.Walk.{Begins, Met, MetAll, RangeFrom, MetFrom};
 
 // The greatest latency, and the number of partitions that were walked for it.
 pub struct Greatest {
@@ -142,7 +142,7 @@ fn walk_range(tasks: &[u64], gap: u64, p: usize, h: u64, bound: u64) -> Greatest
 
 // Walks as many partitions as the range has, from any job of place p on that is not before its warm-up job; the first one above the bound ends the walk. What stands for the divisions of the steps is
 // lent, so that lists with the same periods share it.
-pub fn walk_round(
+pub fn walk_range_from(
     tasks: &[u64],
     gap: u64,
     places: usize,
@@ -152,8 +152,8 @@ pub fn walk_round(
     bound: u64,
     reciprocals: &[u64],
 ) -> Greatest
-    requires { ⌜ (Round (tasksIn gap (now tasks)) places p (from .0) n) × Reciprocals (tasksIn gap (now tasks)) (now reciprocals) ⌝ }
-    ensures { λ r. ⌜ MetRound (tasksIn gap (now (tasks .entry))) n bound r ⌝ }
+    requires { ⌜ (RangeFrom (tasksIn gap (now tasks)) places p (from .0) n) × Reciprocals (tasksIn gap (now tasks)) (now reciprocals) ⌝ }
+    ensures { λ r. ⌜ MetFrom (tasksIn gap (now (tasks .entry))) p (from .0) n bound r ⌝ }
 {
     let mut state = [0u64; 24];
     let first = outset::first(tasks, gap, places, p, from, &mut state);

@@ -35,7 +35,7 @@ use Rattle.phase.specs.Phases.{foundAt, smallestOf}
 use Rattle.phase.specs.MovedTasks.{movedAt}
 use Rattle.phase.specs.PhasesRepeat.{Periods, phases-repeat}
 use Rattle.phase.specs.Search.{found-early, none-early}
-use Rattle.phase.specs.InList.{keepsIn, periodIn, judgedIn, Filled, Accepted, OthersDivide, Finds}
+use Rattle.phase.specs.InList.{keepsIn, periodIn, judgedIn, Filled, AcceptedList, OthersDivide, Finds}
 
 -- the first place with a number has it
 position-at : (places : List ℕ) (n : ℕ) → positionOf n places < length places → getD places (positionOf n places) 0 ≡ n
@@ -50,7 +50,7 @@ position-at (m ∷ places) n h = go (eqb m n) refl h (position-at places n)
 
 -- ---- the task at place `at`
 
-module _ (g : ℕ) (places : List ℕ) (l : List Task) (ok : Accepted g places l) (at : ℕ) (inside : at < length places) where
+module _ (g : ℕ) (places : List ℕ) (l : List Task) (ok : AcceptedList g places l) (at : ℕ) (inside : at < length places) where
   count : length (placed g l) ≡ length l
   count = length-map l (placeOf g)
 
@@ -154,5 +154,5 @@ module _ (g : ℕ) (places : List ℕ) (l : List Task) (number bound at : ℕ) (
       none-found e = sym (judged-so ∙ rw (le-ltb (r .phase) (getD l at zeroTask .period) e))
 
 -- what the list's own checks leave
-pub accepted-list : (g : ℕ) (places : List ℕ) (l : List Task) (h : ℕ) → Filled places l → verdictIn g l ≡ verdict.Accepted h → (Accepted g places l) × (h ≡ hyperOf (placed g l))
+pub accepted-list : (g : ℕ) (places : List ℕ) (l : List Task) (h : ℕ) → Filled places l → verdictIn g l ≡ verdict.Accepted h → (AcceptedList g places l) × (h ≡ hyperOf (placed g l))
 accepted-list g places l h filled e = let k = accepted-in g l h e in (record { long = filled .long; sound = k .sound; small = omega (arith, k .hyper, k .small) }, k .hyper)

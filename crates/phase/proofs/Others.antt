@@ -2,7 +2,7 @@
 use Prim.Native.Nat.{ℕ, _+_, _*_, _≤_, _<_, _∣_}
 use native.Mathlib.Omega.{arith}
 use native.Mathlib.Decide.{decLt}
-use native.Mathlib.Nat.{one-dvd, dvd-trans, le-of-dvd, mul-le-mul-left, mul-le-mul-right}
+use native.Mathlib.Nat.{one-dvd, dvd-trans, le-of-dvd, mul-le-mul-left}
 use mathlib.Core.Path.{_≡_, sym, ap, _∙_, subst}
 use mathlib.Core.List.{List}
 use lib.ListN.{length, getD, length-map}
@@ -15,7 +15,11 @@ use Rattle.chain.specs.Chains.{placed, at, zeroTask}
 use Rattle.chain.specs.Placed.{at-placed}
 use Rattle.chain.specs.Hyperperiod.{hyperOf}
 use Rattle.chain.specs.Multiples.{hyper-multiple, hyper-pos}
-use Rattle.phase.specs.InList.{Accepted, OthersDivide}
+use Rattle.phase.specs.InList.{AcceptedList, OthersDivide}
+
+-- the product of two small numbers fits
+pub product-fits : (x y : ℕ) → x ≤ 60000000 → y ≤ 1000000 → x * y ≤ 1000000000000000000
+product-fits x y a b = omega (arith, mul-le-mul-left {m = y} {n = 1000000} x b)
 
 pub record Multiplied (g number : ℕ) (places : List ℕ) (l : List Task) (multiple i : ℕ) : Type 0 where
   pub few : i ≤ length places
@@ -23,7 +27,7 @@ pub record Multiplied (g number : ℕ) (places : List ℕ) (l : List Task) (mult
   pub divides : multiple ∣ hyperOf (placed g l)
   pub others : (j : ℕ) → j < i → (getD places j 0 ≡ number → ⊥) → getD l j zeroTask .period ∣ multiple
 
-module _ (g number : ℕ) (places : List ℕ) (l : List Task) (ok : Accepted g places l) where
+module _ (g number : ℕ) (places : List ℕ) (l : List Task) (ok : AcceptedList g places l) where
   pub multiplied-start : Multiplied g number places l 1 0
   multiplied-start = record { few = omega arith; some = omega arith; divides = one-dvd (hyperOf (placed g l)); others = λ j h e. absurd (omega arith) }
 
@@ -46,12 +50,12 @@ module _ (g number : ℕ) (places : List ℕ) (l : List Task) (ok : Accepted g p
         period-is : a .period ≡ getD l i zeroTask .period
         period-is = ap (λ (x : Place). x .period) (is ∙ at-placed g l i (omega (arith, ok .long)))
 
-        pub multiplied-room : (1 ≤ multiple) × (multiple * a .period ≤ 1000000000000000000)
+        -- both numbers are small
+        pub multiplied-room : (1 ≤ multiple) × (multiple ≤ 60000000) × (1 ≤ a .period) × (a .period ≤ 1000000)
         multiplied-room =
             let limits = ok .sound .each i (place-inside .0) in
-            let T : a .period ≤ 1000000 = omega (arith, ap (λ (x : Place). x .period) is, limits .period-max) in
-            let m : multiple ≤ 60000000 = omega (arith, le-of-dvd (hyper-pos (placed g l) (ok .sound)) (k .divides), ok .small) in
-            (k .some, omega (arith, mul-le-mul-left {m = a .period} {n = 1000000} multiple T, m))
+            let same = ap (λ (x : Place). x .period) is in
+            (k .some, omega (arith, le-of-dvd (hyper-pos (placed g l) (ok .sound)) (k .divides), ok .small), omega (arith, same, limits .period-pos), omega (arith, same, limits .period-max))
 
         pub multiplied-turn : (next : ℕ) → next ≡ lcmOf multiple (a .period) → Multiplied g number places l next (i + 1)
         multiplied-turn next e =

@@ -30,10 +30,10 @@ use Rattle.outset.specs.Range.{Range}
 use Rattle.latency.specs.declared.Greatest.{Greatest}
 use Rattle.latency.specs.Latency.{greatestLatency}
 use Rattle.latency.specs.LongestPlace.{longestPeriod, longestPlace, longest-place, longest-is}
-use Rattle.latency.specs.Walk.{Round, MetRound}
+use Rattle.latency.specs.Walk.{RangeFrom, MetFrom}
 use Rattle.phase.specs.declared.Tried.{Tried}
-use Rattle.phase.specs.MovedTasks.{movedAt, moved-length, moved-again, moved-hyper, moved-count, period-same, moved-sound}
-use Rattle.phase.specs.InList.{keepsIn, Accepted, Begun, Finds}
+use Rattle.phase.specs.MovedTasks.{movedAt, moved-length, moved-again, moved-hyper, moved-count, period-same, moved-list-sound}
+use Rattle.phase.specs.InList.{keepsIn, AcceptedList, Begun, Finds}
 
 -- ---- the walk of one phase
 
@@ -71,7 +71,7 @@ module _ (g : ℕ) (places : List ℕ) (l : List Task) (p n from : ℕ) (r : Lis
     m = placed g (movedAt number F places l)
 
     sound : Sound m
-    sound = moved-sound number g F places l long small (k .accepted .sound)
+    sound = moved-list-sound number g F places l long small (k .accepted .sound)
 
     count : length m ≡ length l
     count = omega (arith, moved-count number g F places l long, length-map l (placeOf g))
@@ -98,7 +98,7 @@ module _ (g : ℕ) (places : List ℕ) (l : List Task) (p n from : ℕ) (r : Lis
         let b : x * T ≤ n * T = mul-le-mul-right T (omega arith) in
         omega (arith, a, b, range-ticks, k .soon, period-max, w .phase-max, w .duration-max)
 
-    pub walk-begins : (x : ℕ) → x < n → Round m (length places) p (from + x) n
+    pub walk-begins : (x : ℕ) → x < n → RangeFrom m (length places) p (from + x) n
     walk-begins x h = record {
       range = record {
         sound = sound;
@@ -159,7 +159,7 @@ module _ (g : ℕ) (places : List ℕ) (l : List Task) (number bound phases n : 
       pub put-is : givenIn tasks′ ≡ movedAt number phase places l
       put-is = put ∙ k .same phase
 
-      module _ (found : Greatest) (met : MetRound (placed g (givenIn tasks′)) n bound found) where
+      module _ (found : Greatest) (p m : ℕ) (met : MetFrom (placed g (givenIn tasks′)) p m n bound found) where
         greatest-is : greatestLatency (placed g (givenIn tasks′)) ≡ greatestLatency (placed g (movedAt number phase places l))
         greatest-is = ap (λ (y : List Task). greatestLatency (placed g y)) put-is
 
@@ -178,7 +178,7 @@ module _ (g : ℕ) (places : List ℕ) (l : List Task) (number bound phases n : 
         -- the phase keeps the bound,
         pub trying-found : found .latency ≤ bound → Finds g places l number bound phases (phases * n) (record { phase = phase; walked = walked + found .walked })
         trying-found fits =
-            let e : test phase ≡ true = le-leb (greatestLatency (placed g (movedAt number phase places l))) bound (omega (arith, met .whole fits, greatest-is)) in
+            let e : test phase ≡ true = le-leb (greatestLatency (placed g (movedAt number phase places l))) bound (omega (arith, met .whole fits .0, greatest-is)) in
             let u : (phase + 1) * n ≤ phases * n = mul-le-mul-right n (omega arith) in
             record { phase = sym (k .left ∙ ap (leastFrom test phase) rest ∙ least-here test (phases - (phase + 1)) phase e); few = omega (arith, walked-few, u) }
 
@@ -202,7 +202,7 @@ module _ (g : ℕ) (places : List ℕ) (l : List Task) (number bound phases n : 
 pub quotient-fits : (x T : ℕ) → x ≤ 61000000 → Fits w64 (x / T + 1)
 quotient-fits x T h = omega (arith, div-le-self x T)
 
-module _ (g : ℕ) (places : List ℕ) (l : List Task) (ok : Accepted g places l) (p : ℕ) (is : p ≡ longestPlace (placed g l)) where
+module _ (g : ℕ) (places : List ℕ) (l : List Task) (ok : AcceptedList g places l) (p : ℕ) (is : p ≡ longestPlace (placed g l)) where
   place : (1 ≤ p) × (p ≤ length (placed g l))
   place = let w = longest-place (placed g l) (ok .sound .some) in (omega (arith, w .some), omega (arith, w .inside))
 

@@ -51,7 +51,7 @@ pub record Filled (places : List ℕ) (l : List Task) : Type 0 where
   pub same : (i j : ℕ) → i < length l → j < length l → getD places i 0 ≡ getD places j 0 → getD l i zeroTask ≡ getD l j zeroTask
 
 -- Tasks that 8, 5 and 7 accept, and a number for each.
-pub record Accepted (g : ℕ) (places : List ℕ) (l : List Task) : Type 0 where
+pub record AcceptedList (g : ℕ) (places : List ℕ) (l : List Task) : Type 0 where
   pub long : length places ≡ length l
   pub sound : Sound (placed g l)
   pub small : hyperOf (placed g l) ≤ 60000000
@@ -63,14 +63,14 @@ pub record OthersDivide (number : ℕ) (places : List ℕ) (l : List Task) (r : 
 
 -- What the tries of phases begin with: the place p at which the walks go, the length n of its range, a job from which on every phase is warm, and what stands for the divisions of the steps.
 pub record Begun (g : ℕ) (places : List ℕ) (l : List Task) (p n from : ℕ) (r : List ℕ) : Type 0 where
-  pub accepted : Accepted g places l
+  pub accepted : AcceptedList g places l
   pub inside : p < length l
   pub range : n ≡ hyperOf (placed g l) / at (placed g l) p .period
   pub warm : 60011000 ≤ from * at (placed g l) p .period
   pub soon : from * at (placed g l) p .period ≤ 62000000
   pub constants : Reciprocals (placed g l) r
 
--- What a search of the phases below n finds, and that it walked no more than `most` partitions.
+-- What a search of the phases below n finds, and that the partitions that its walks answered together are no more than `most`.
 pub record Finds (g : ℕ) (places : List ℕ) (l : List Task) (number bound n most : ℕ) (r : Tried) : Type 0 where
   pub phase : r .phase ≡ leastFrom (keepsIn g places l number bound) 0 n
   pub few : r .walked ≤ most

@@ -28,7 +28,7 @@ use Rattle.schedule.specs.Arrays.{Arrays}
 use Rattle.schedule.specs.Rule.{Rule, rule}
 use Rattle.schedule.specs.ChainTasks.{route-there, chain-tasks}
 use Rattle.schedule_checks.specs.Checks.{firstFault, firstUnknown, choiceOf, afterChoice}
-use Rattle.schedule_checks.specs.SoundSchedule.{SoundSchedule, fault-cons}
+use Rattle.schedule_checks.specs.SoundSchedule.{SoundSchedule, fault-cons, no-refusal}
 use Rattle.schedule_checks.specs.SoundChain.{sound-placed, sound-length, sound-known, sound-chain, sound-route}
 use Rattle.schedule_checks.specs.ChosenChain.{choice-sound, choice-there, choice-answers}
 use Rattle.latency.specs.Latency.{greatestLatency}
@@ -77,7 +77,7 @@ module _ (n F : ℕ) where
   ])
 
   -- No task's period changes.
-  period-stays : (ts : List NumberedTask) (m : ℕ) → taskNumbered (map (withPhase n F) ts) m .period ≡ taskNumbered ts m .period
+  pub period-stays : (ts : List NumberedTask) (m : ℕ) → taskNumbered (map (withPhase n F) ts) m .period ≡ taskNumbered ts m .period
   unfolding taskNumbered
   period-stays [] m = refl
   period-stays (t ∷ ts) m = rw (moved-number t) (go (eqb (t .number) m) (eqb (t .number) n) (period-stays ts m))
@@ -119,6 +119,26 @@ module _ (n F : ℕ) where
       let k = fault-cons p before t ts pos h in
       rw (rule-stays f before t (k .0), moved-number t) (rules-stay f (p + 1) (t .number) ts (omega arith) (k .1))
 
+-- a task that is moved twice is where it was moved last
+phase-again : (n E F : ℕ) (t : NumberedTask) → withPhase n F (withPhase n E t) ≡ withPhase n F t
+phase-again n E F t = go (eqb (t .number) n) refl
+  where
+    go : (b : Bool) → eqb (t .number) n ≡ b → withPhase n F (cond b (record { number = t .number; task = phased E (t .task) }) t) ≡ cond b (record { number = t .number; task = phased F (t .task) }) t
+    go true e = rw e
+    go false e = rw e
+
+tasks-again : (n E F : ℕ) (ts : List NumberedTask) → map (withPhase n F) (map (withPhase n E) ts) ≡ map (withPhase n F) ts
+tasks-again n E F [] = refl
+tasks-again n E F (t ∷ ts) = ap (λ (x : NumberedTask). x ∷ map (withPhase n F) (map (withPhase n E) ts)) (phase-again n E F t) ∙ ap (λ (l : List NumberedTask). withPhase n F t ∷ l) (tasks-again n E F ts)
+
+-- so the phase of today does not matter to what it is moved to
+pub moved-twice : (s : Schedule) (number E F : ℕ) → moved (moved s number E) number F ≡ moved s number F
+moved-twice s number E F =
+    ap (λ (ts : List NumberedTask). schedule ts) (tasks-again number E F (s .tasks))
+  where
+    schedule : List NumberedTask → Schedule
+    schedule ts = record { tasks = ts; routes = s .routes; count = s .count; chains = s .chains; gap = s .gap }
+
 -- 7 looks at the periods alone
 hyper-by : (g : ℕ) (f f′ : ℕ → Task) → ((m : ℕ) → f m .period ≡ f′ m .period) → (places : List ℕ) (h : ℕ) → hyperFrom h (placed g (map f places)) ≡ hyperFrom h (placed g (map f′ places))
 unfolding hyperFrom
@@ -142,7 +162,7 @@ place-known numbers (m ∷ places) p n pos h k = go (known numbers m) refl h (pl
 -- ---- the schedule
 
 module _ (s : Schedule) (number F : ℕ) where
-  tasks-moved : tasksIn (moved s number F) ≡ map (withPhase number F) (tasksIn s)
+  pub tasks-moved : tasksIn (moved s number F) ≡ map (withPhase number F) (tasksIn s)
   tasks-moved = take-map (withPhase number F) (s .count) (s .tasks)
 
   pub moved-arrays : Arrays s → Arrays (moved s number F)
@@ -161,8 +181,13 @@ module _ (s : Schedule) (number F : ℕ) where
     places-known = rw (tasks-moved, numbers-same number F (tasksIn s)) (k .places-known);
   }
 
+  -- So the choice of every chain number is the same,
+  pub moved-choices : F ≤ 1000000 → SoundSchedule s → (m : ℕ) → choiceOf (moved s number F) m ≡ choiceOf s m
+  unfolding choiceOf
+  moved-choices f k m = rw (no-refusal (moved s number F) (moved-sound f k), no-refusal s k)
+
   module _ (n : ℕ) (a : Arrays s) where
-    -- So a chain number that is chosen is chosen,
+    -- and one that is chosen is chosen.
     pub moved-choice : F ≤ 1000000 → choiceOf s n .number ≡ 0 → choiceOf (moved s number F) n ≡ none
     moved-choice f e = let k = choice-sound s n e in choice-there (moved s number F) n (moved-sound f (k .0)) (k .1) (k .2)
 

@@ -84,8 +84,8 @@ module _ (number : ℕ) where
         ap (λ (a : Place). a .period) (moved-place i h) ∙ moved-period (eqb (getD places i 0) number) F (getD l i zeroTask) ∙ sym (ap (λ (a : Place). a .period) (at-placed g l i h))
 
     -- it passes 8 and 5
-    pub moved-sound : F ≤ 1000000 → Sound (placed g l) → Sound (placed g (movedAt number F places l))
-    moved-sound f ok =
+    pub moved-list-sound : F ≤ 1000000 → Sound (placed g l) → Sound (placed g (movedAt number F places l))
+    moved-list-sound f ok =
         let n : length (placed g l) ≡ length l = length-map l (placeOf g) in
         record {
           some = omega (arith, moved-count, ok .some);

@@ -28,7 +28,7 @@ phased F a = record { period = a .period; duration = a .duration; phase = F }
 abbrev pub withPhase : ℕ → ℕ → NumberedTask → NumberedTask
 withPhase number F t = cond (eqb (t .number) number) (record { number = t .number; task = phased F (t .task) }) t
 
--- The schedule whose task with this number has phase F. "Every place filled by that task moves."
+-- The schedule whose task with this number has phase F. "Every place filled by that task moves." (Entries past the count are changed too, which are no part of a schedule.)
 abbrev pub moved : Schedule → ℕ → ℕ → Schedule
 moved s number F = record { tasks = map (withPhase number F) (s .tasks); routes = s .routes; count = s .count; chains = s .chains; gap = s .gap }
 

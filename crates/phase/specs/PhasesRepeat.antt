@@ -19,7 +19,7 @@ use Rattle.chain.specs.Checks.{Sound}
 use Rattle.timing.specs.Period.{ShiftedTo}
 use Rattle.latency.specs.Latency.{greatestLatency}
 use Rattle.phase.specs.Phases.{phased}
-use Rattle.phase.specs.MovedTasks.{movedAt, moved-count, moved-place, moved-sound}
+use Rattle.phase.specs.MovedTasks.{movedAt, moved-count, moved-place, moved-list-sound}
 use Rattle.phase.specs.AnotherTime.{greatest-shifts}
 
 -- T is the period at the places with this number, and L a multiple of the periods at all other places.
@@ -54,10 +54,10 @@ module _ (number T L g : ℕ) (places : List ℕ) (l : List Task) (long : length
 
   module _ (F : ℕ) (top : F + d ≤ 1000000) (ok : Sound (placed g l)) where
     early : Sound (placed g (movedAt number F places l))
-    early = moved-sound number g F places l long (omega arith) ok
+    early = moved-list-sound number g F places l long (omega arith) ok
 
     late : Sound (placed g (movedAt number (F + d) places l))
-    late = moved-sound number g (F + d) places l long top ok
+    late = moved-list-sound number g (F + d) places l long top ok
 
     counts : (E : ℕ) → length (placed g (movedAt number E places l)) ≡ length l
     counts E = omega (arith, moved-count number g E places l long, length-map l (placeOf g))

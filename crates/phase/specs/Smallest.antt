@@ -1,5 +1,5 @@
 -- Order 9 in the customer's words, of what the call answers: a phase is answered exactly where it is the smallest from 0 to period − 1 that keeps the bound (`smallest-phase`), `none` exactly where there is
--- none (`none-exactly`). With the phase found no delay is above the bound, and with each smaller one there is such a delay (`kept`, `broken`); every completed table says so too (`table-keeps`).
+-- none (`none-exactly`). With the phase found no delay is above the bound, and with each smaller one there is such a delay (`kept`, `broken`); every completed table has the greatest latency that was compared (`table-keeps`). The phase of today does not matter (`phase-today`).
 -- Phases from the period on add nothing: each is as good as its remainder (`phase-remainder`), so `none` is said of every permitted phase (`none-at-all`).
 use Prim.Native.Nat.{ℕ, zero, suc, _+_, _*_, _/_, _%_, _≤_, _<_, _∣_}
 use native.Mathlib.Omega.{arith}
@@ -14,6 +14,7 @@ use lib.ListN.{length, getD, length-map}
 use borrow.Author.Tests.{le-leb, leb-true, leb-false}
 use Rattle.refusal.specs.declared.Refusal.{Refusal}
 use Rattle.refusal.specs.Refusals.{refusal}
+use Rattle.ranges.specs.LeastLaws.{least-same}
 use Rattle.euclid.specs.Divisor.{gcdOf}
 use Rattle.euclid.specs.LeastMultiple.{gcd-left, gcd-greatest}
 use Rattle.task.specs.declared.Task.{Task}
@@ -28,6 +29,7 @@ use Rattle.chain.specs.Checks.{Sound, verdictOf}
 use Rattle.chain.specs.Hyperperiod.{hyperOf}
 use Rattle.chain.specs.Multiples.{hyper-multiple, hyper-pos}
 use Rattle.chain.proofs.CheckLaws.{Facts, accepted}
+use Rattle.schedule.specs.declared.NumberedTask.{NumberedTask}
 use Rattle.schedule.specs.declared.Schedule.{Schedule}
 use Rattle.schedule.specs.Schedules.{tasksIn, positionOf, known, taskNumbered, chainAt}
 use Rattle.schedule.specs.Arrays.{Arrays}
@@ -45,11 +47,11 @@ use Rattle.latency.specs.Latency.{greatestLatency}
 use Rattle.latency.specs.GreatestDelay.{greatest-latency-is, table-greatest}
 use Rattle.phase.specs.declared.Phase.{Phase}
 use Rattle.phase.specs.declared.Phase.the-variants.{Of, Nothing, Refused}
-use Rattle.phase.specs.Phases.{moved, keepsBound, smallestOf, periodOf, placesAt, phaseAfter, phaseFrom}
+use Rattle.phase.specs.Phases.{moved, keepsBound, foundAt, smallestOf, periodOf, placesAt, phaseAfter, phaseFrom}
 use Rattle.phase.specs.Search.{SmallestPhase, NoPhase, smallest-found, none-there, found-smallest, none-smallest}
 use Rattle.phase.specs.PhasesRepeat.{Periods, phases-repeat}
 use Rattle.phase.specs.MovedTasks.{movedAt}
-use Rattle.phase.specs.MovedSchedule.{moved-choice, moved-verdict, moved-arrays, keeps-same, places-filled, tasks-are, map-at, position-task}
+use Rattle.phase.specs.MovedSchedule.{tasks-moved, period-stays, moved-twice, moved-choice, moved-verdict, moved-arrays, keeps-same, places-filled, tasks-are, map-at, position-task}
 
 -- A press from the warm-up tick on that waits longer than the bound.
 pub record LatePress (l : List Place) (bound : ℕ) : Type 0 where
@@ -58,7 +60,7 @@ pub record LatePress (l : List Place) (bound : ℕ) : Type 0 where
   pub late : bound < delayAt l press
 
 -- What the checks leave: a chain of the schedule that 7 accepts, a task of that chain, with a period up to 10,000.
-pub record Asked (s : Schedule) (n number : ℕ) : Type 0 where
+pub record Passed (s : Schedule) (n number : ℕ) : Type 0 where
   pub chosen : choiceOf s n .number ≡ 0
   pub hyper : ℕ
   pub accepted : verdictOf (chainAt s n) ≡ verdict.Accepted hyper
@@ -67,25 +69,25 @@ pub record Asked (s : Schedule) (n number : ℕ) : Type 0 where
 
 module _ (s : Schedule) (n number bound : ℕ) where
   -- Where the checks pass, the answer is the search's,
-  pub asked-answer : Asked s n number → phaseFrom s n number bound ≡ smallestOf (keepsBound s n number bound) (periodOf s number)
+  pub passed-answer : Passed s n number → phaseFrom s n number bound ≡ smallestOf (keepsBound s n number bound) (periodOf s number)
   unfolding phaseAfter
-  asked-answer k =
+  passed-answer k =
       choice-answers s n Refused _ (k .chosen)
       ∙ rw (k .accepted, k .there, le-leb (periodOf s number) 10000 (k .short))
 
   -- and where it is no refusal, they pass.
-  answer-asked : (p : Phase) → ((r : Refusal) → Refused r ≡ p → ⊥) → phaseFrom s n number bound ≡ p → Asked s n number
+  answer-passed : (p : Phase) → ((r : Refusal) → Refused r ≡ p → ⊥) → phaseFrom s n number bound ≡ p → Passed s n number
   unfolding phaseAfter
-  answer-asked p other e =
+  answer-passed p other e =
       let c = answer-chosen s n Refused _ p other e in
       go c (verdictOf (chainAt s n)) refl (sym (choice-answers s n Refused _ c) ∙ e)
     where
-      go : choiceOf s n .number ≡ 0 → (v : Verdict) → verdictOf (chainAt s n) ≡ v → phaseAfter s n number bound v ≡ p → Asked s n number
+      go : choiceOf s n .number ≡ 0 → (v : Verdict) → verdictOf (chainAt s n) ≡ v → phaseAfter s n number bound v ≡ p → Passed s n number
       go c (verdict.Refused r) f h = absurd (other r h)
       go c (verdict.Accepted x) f h = judge (known (placesAt s n) number) refl (leb (periodOf s number) 10000) refl h
         where
           judge : (b : Bool) → known (placesAt s n) number ≡ b → (d : Bool) → leb (periodOf s number) 10000 ≡ d
-              → cond b (cond d (smallestOf (keepsBound s n number bound) (periodOf s number)) (Refused (refusal 20 0))) (Refused (refusal 19 0)) ≡ p → Asked s n number
+              → cond b (cond d (smallestOf (keepsBound s n number bound) (periodOf s number)) (Refused (refusal 20 0))) (Refused (refusal 19 0)) ≡ p → Passed s n number
           judge true q true w h = record { chosen = c; hyper = x; accepted = f; there = q; short = leb-true (periodOf s number) 10000 w }
           judge true q false w h = absurd (other (refusal 20 0) h)
           judge false q d w h = absurd (other (refusal 19 0) h)
@@ -97,22 +99,22 @@ module _ (s : Schedule) (n number bound : ℕ) where
   no-refusal-none r h = let z : _≡_ {A = ℕ} 0 1 = cc in omega arith
 
   -- "the smallest phase from 0 to period − 1 with which the chain's greatest latency is at most the bound",
-  pub smallest-phase : (F : ℕ) → (phaseFrom s n number bound ≡ Of F) ↔ (Asked s n number × SmallestPhase (keepsBound s n number bound) (periodOf s number) F)
+  pub smallest-phase : (F : ℕ) → (phaseFrom s n number bound ≡ Of F) ↔ (Passed s n number × SmallestPhase (keepsBound s n number bound) (periodOf s number) F)
   smallest-phase F = (
-    λ e. let k = answer-asked (Of F) (no-refusal-of F) e in (k, found-smallest (keepsBound s n number bound) (periodOf s number) F (sym (asked-answer k) ∙ e)),
-    λ p. asked-answer (p .0) ∙ smallest-found (keepsBound s n number bound) (periodOf s number) F (p .1),
+    λ e. let k = answer-passed (Of F) (no-refusal-of F) e in (k, found-smallest (keepsBound s n number bound) (periodOf s number) F (sym (passed-answer k) ∙ e)),
+    λ p. passed-answer (p .0) ∙ smallest-found (keepsBound s n number bound) (periodOf s number) F (p .1),
   )
 
   -- "or `none` exactly when there is no such phase."
-  pub none-exactly : (phaseFrom s n number bound ≡ Nothing) ↔ (Asked s n number × NoPhase (keepsBound s n number bound) (periodOf s number))
+  pub none-exactly : (phaseFrom s n number bound ≡ Nothing) ↔ (Passed s n number × NoPhase (keepsBound s n number bound) (periodOf s number))
   none-exactly = (
-    λ e. let k = answer-asked Nothing no-refusal-none e in (k, none-smallest (keepsBound s n number bound) (periodOf s number) (sym (asked-answer k) ∙ e)),
-    λ p. asked-answer (p .0) ∙ none-there (keepsBound s n number bound) (periodOf s number) (p .1),
+    λ e. let k = answer-passed Nothing no-refusal-none e in (k, none-smallest (keepsBound s n number bound) (periodOf s number) (sym (passed-answer k) ∙ e)),
+    λ p. passed-answer (p .0) ∙ none-there (keepsBound s n number bound) (periodOf s number) (p .1),
   )
 
 -- ---- what a phase that keeps the bound means
 
-module _ (s : Schedule) (a : Arrays s) (n number : ℕ) (k : Asked s n number) (F : ℕ) (small : F ≤ 1000000) where
+module _ (s : Schedule) (a : Arrays s) (n number : ℕ) (k : Passed s n number) (F : ℕ) (small : F ≤ 1000000) where
   abbrev c : Chain
   c = chainAt (moved s number F) n
 
@@ -139,9 +141,30 @@ module _ (s : Schedule) (a : Arrays s) (n number : ℕ) (k : Asked s n number) (
   table-keeps p starts latencies starts′ latencies′ f makes =
       table-greatest c (chosen-twelve (moved s number F) n (moved-arrays s number F a) (ap (λ (r : Refusal). r .number) (moved-choice s number F n a small (k .chosen)))) p starts latencies starts′ latencies′ f makes
 
+-- ---- the phase of today
+
+-- A task that has another permitted phase today has the same answer.
+pub phase-today : (s : Schedule) → Arrays s → (n number bound : ℕ) → Passed s n number → (E : ℕ) → E ≤ 1000000 → phaseFrom (moved s number E) n number bound ≡ phaseFrom s n number bound
+phase-today s a n number bound k E small =
+    let w = choice-sound s n (k .chosen) in
+    let period : periodOf (moved s number E) number ≡ periodOf s number
+    = ap (λ (ts : List NumberedTask). taskNumbered ts number .period) (tasks-moved s number E) ∙ period-stays number E (tasksIn s) number in
+    let passed : Passed (moved s number E) n number = record {
+      chosen = ap (λ (r : Refusal). r .number) (moved-choice s number E n a small (k .chosen));
+      hyper = k .hyper;
+      accepted = moved-verdict s number E n a (w .0) (w .1) (w .2) small ∙ k .accepted;
+      there = k .there;
+      short = omega (arith, period, k .short);
+    } in
+    passed-answer (moved s number E) n number bound passed
+    ∙ ap (smallestOf (keepsBound (moved s number E) n number bound)) period
+    ∙ ap (foundAt (periodOf s number)) (least-same (keepsBound (moved s number E) n number bound) (keepsBound s n number bound) (periodOf s number) 0
+    (λ F u v. ap (λ (x : Schedule). leb (greatestLatency (tasksOf (chainAt x n))) bound) (moved-twice s number E F)))
+    ∙ sym (passed-answer s n number bound k)
+
 -- ---- phases from the period on
 
-module _ (s : Schedule) (a : Arrays s) (n number bound : ℕ) (k : Asked s n number) where
+module _ (s : Schedule) (a : Arrays s) (n number bound : ℕ) (k : Passed s n number) where
   abbrev l : List Task
   l = givenOf (chainAt s n)
 

@@ -2,8 +2,8 @@
 // `smallest_phase` is the entry point: it takes any schedule and any numbers. The other functions work on the flat list of the chain's tasks, whose phases they change, and on the numbers of the tasks at
 // its places; they count places from 0.
 // Phases are tried from 0 on, and a try ends at its first partition above the bound. Three things keep the tries few and short. Only the phases below the greatest common divisor of the task's period and the
-// other periods are tried, since after them the chain is the same at another time. A try begins where a partition above the bound is likely: from phase to phase those stay where they are, or move on by the
-// same number of jobs each time. And no try works out a warm-up: every walk goes where all phases are warm.
+// periods of the chain's other tasks are tried, since after them the chain is the same at another time. A try begins where a partition above the bound is likely: from phase to phase those often stay where they
+// are, or move on by the same number of jobs each time. And no try works out a warm-up: every walk goes where all phases are warm.
 use chain::Chain;
 use chain::Verdict;
 use latency::Greatest;
@@ -22,7 +22,7 @@ ghost use Rattle.chain.specs.Flat.{givenIn, tasksIn};
 ghost use Rattle.latency.specs.LongestPlace.{longestPeriod};
 ghost use Rattle.phase.specs.Phases.{phaseFrom};
 ghost use Rattle.phase.specs.MovedTasks.{movedAt};
-ghost use Rattle.phase.specs.InList.{Accepted, Filled, OthersDivide, Begun, Finds, judgedIn, phaseIn};
+ghost use Rattle.phase.specs.InList.{AcceptedList, Filled, OthersDivide, Begun, Finds, judgedIn, phaseIn};
 
 // The smallest phase, or none; or the refusal.
 pub enum Phase {
@@ -53,9 +53,9 @@ fn put_phase(tasks: &mut [u64], places: &[u64], number: u64, phase: u64)
     }
 }
 
-// A multiple of the periods of all tasks but the one with this number: their least, 1 where there are none.
+// A multiple of the periods of all tasks but the one with this number. It is the least, 1 where there are none, so that few phases are tried; that it is a multiple is all that the search needs.
 fn others_multiple(tasks: &[u64], gap: u64, places: &[u64], number: u64) -> u64
-    requires { ⌜ Accepted gap (now places) (givenIn (now tasks)) ⌝ }
+    requires { ⌜ AcceptedList gap (now places) (givenIn (now tasks)) ⌝ }
     ensures { λ r. ⌜ OthersDivide number (now (places .entry)) (givenIn (now (tasks .entry))) r ⌝ }
 {
     let mut multiple: u64 = 1;
@@ -72,7 +72,7 @@ fn others_multiple(tasks: &[u64], gap: u64, places: &[u64], number: u64) -> u64
     multiple
 }
 
-// A number below 2 n as one below n, n less where it is not.
+// A number below 2 n as one below n, n less where it is not. It says where a walk begins, so that it is below n is all that the search needs.
 fn turned(x: u64, n: u64) -> u64
     requires { ⌜ x < n + n ⌝ }
     ensures { λ r. ⌜ r < n ⌝ }
@@ -80,7 +80,7 @@ fn turned(x: u64, n: u64) -> u64
     if x < n { x } else { x - n }
 }
 
-// Tries the phases below `phases`, each with a walk round the range of place p, n partitions. A walk begins as far after the end of the one before as that one ended after the end of the one before it.
+// Tries the phases below `phases`, each with a walk round the range of place p, n partitions. The third walk and each later one begins as far after the end of the one before as that one ended after the end of the one before it.
 fn try_phases(
     tasks: &mut [u64],
     gap: u64,
@@ -103,7 +103,7 @@ fn try_phases(
     while phase < phases {
         put_phase(tasks, places, number, phase);
         let start = turned(at + stride, n);
-        let found = latency::walk_round(
+        let found = latency::walk_range_from(
             tasks,
             gap,
             places.len(),
@@ -138,7 +138,7 @@ fn search(
     h: u64,
     bound: u64,
 ) -> Tried
-    requires { ⌜ (Accepted gap (now places) (givenIn (now tasks))) × (h ≡ hyperOf (tasksIn gap (now tasks))) × (phases ≤ 10000) ⌝ }
+    requires { ⌜ (AcceptedList gap (now places) (givenIn (now tasks))) × (h ≡ hyperOf (tasksIn gap (now tasks))) × (phases ≤ 10000) ⌝ }
     ensures { λ r. ⌜ Finds gap (now (places .entry)) (givenIn (now (tasks .entry))) number bound phases (phases * (h / longestPeriod (tasksIn gap (now (tasks .entry))))) r ⌝ }
 {
     let p = latency::longest_place(tasks, gap) - 1;
@@ -169,7 +169,7 @@ fn search_period(
     h: u64,
     bound: u64,
 ) -> Tried
-    requires { ⌜ (Accepted gap (now places) (givenIn (now tasks))) × (Filled (now places) (givenIn (now tasks))) × (h ≡ hyperOf (tasksIn gap (now tasks))) × (at < length (now places)) × (getD (givenIn (now tasks)) at zeroTask .period ≤ 10000) ⌝ }
+    requires { ⌜ (AcceptedList gap (now places) (givenIn (now tasks))) × (Filled (now places) (givenIn (now tasks))) × (h ≡ hyperOf (tasksIn gap (now tasks))) × (at < length (now places)) × (getD (givenIn (now tasks)) at zeroTask .period ≤ 10000) ⌝ }
     ensures { λ r. ⌜ Finds gap (now (places .entry)) (givenIn (now (tasks .entry))) (getD (now (places .entry)) at 0) bound (getD (givenIn (now (tasks .entry))) at zeroTask .period) h r ⌝ }
 {
     let number = places[at];
@@ -187,7 +187,7 @@ fn search_period(
 
 // 19, a task that is not in the chain; 20, a period above 10,000; then the search.
 fn judged(tasks: &mut [u64], gap: u64, places: &[u64], number: u64, h: u64, bound: u64) -> Phase
-    requires { ⌜ (Accepted gap (now places) (givenIn (now tasks))) × (Filled (now places) (givenIn (now tasks))) × (h ≡ hyperOf (tasksIn gap (now tasks))) ⌝ }
+    requires { ⌜ (AcceptedList gap (now places) (givenIn (now tasks))) × (Filled (now places) (givenIn (now tasks))) × (h ≡ hyperOf (tasksIn gap (now tasks))) ⌝ }
     ensures { λ r. ⌜ r ≡ judgedIn gap (now (places .entry)) (givenIn (now (tasks .entry))) number bound ⌝ }
 {
     let at = schedule::find(places, places.len(), number);

@@ -10,7 +10,7 @@ use Rattle.latency.proofs.walk.Tie as tie
 
 abbrev Inv-loop : tie.InvT-loop
 Inv-loop tasks gap places p n bound reciprocals state₀ walked₀ latency₀ state walked latency =
-    (length state ≡ length state₀) × Walking (tasksIn gap tasks) p n (jobAt state₀ p) state walked latency
+    (length state ≡ length state₀) × Walking (tasksIn gap tasks) p n (jobAt state₀ p) bound state walked latency
 
 abbrev μ-loop : tie.MeasureT-loop
 μ-loop tasks gap places p n bound reciprocals state₀ walked₀ latency₀ state walked latency = n - walked
@@ -19,19 +19,19 @@ latency-of-requires : tie.Need-latency-of-requires Inv-loop μ-loop
 latency-of-requires c κs = let s = c .before .before .before in begins-ordered (tasksIn (s .args .gap) (s .args .tasks .now)) (s .args .places) (s .args .p) (s .args .n) (s .args .first) (s .args .state .now) (s .pre .0)
 
 loop-holds : tie.Need-loop-holds Inv-loop μ-loop
-loop-holds c = let s = c .before .before .before .before in (refl, begins-start (tasksIn (s .args .gap) (s .args .tasks .now)) (s .args .places) (s .args .p) (s .args .n) (s .args .first) (s .args .state .now) (s .pre .0) _ (c .latency-of .ensures))
+loop-holds c = let s = c .before .before .before .before in (refl, begins-start (tasksIn (s .args .gap) (s .args .tasks .now)) (s .args .places) (s .args .p) (s .args .n) (s .args .first) (s .args .state .now) (s .pre .0) (s .args .bound) _ (c .latency-of .ensures))
 
 same-length : tie.Need-same-length Inv-loop μ-loop
 same-length c = c .before .before .loop .inv .0
 
 returns : tie.Need-returns Inv-loop μ-loop
-returns c = let s = c .before .before .before .before .before .before .before in begins-late (tasksIn (s .args .gap) (s .args .tasks .now)) (s .args .places) (s .args .p) (s .args .n) (s .args .first) (s .args .state .now) (s .pre .0) _ _ _ (c .before .before .loop .inv .1) _ (c .if1 .taken)
+returns c = let s = c .before .before .before .before .before .before .before in begins-late (tasksIn (s .args .gap) (s .args .tasks .now)) (s .args .places) (s .args .p) (s .args .n) (s .args .first) (s .args .state .now) (s .pre .0) _ _ _ _ (c .before .before .loop .inv .1) (c .if1 .taken)
 
 next-requires : tie.Need-next-requires Inv-loop μ-loop
-next-requires c κs = let s = c .before .before .before .before .before .before .before .before in begins-steps (tasksIn (s .args .gap) (s .args .tasks .now)) (s .args .places) (s .args .p) (s .args .n) (s .args .first) (s .args .state .now) (s .pre .0) _ _ _ (c .before .before .before .loop .inv .1) (c .before .before .loop-test .taken) _ (s .pre .1)
+next-requires c κs = let s = c .before .before .before .before .before .before .before .before in begins-steps (tasksIn (s .args .gap) (s .args .tasks .now)) (s .args .places) (s .args .p) (s .args .n) (s .args .first) (s .args .state .now) (s .pre .0) _ _ _ _ (c .before .before .before .loop .inv .1) (c .before .before .loop-test .taken) _ (s .pre .1)
 
 latency-of-requires-2 : tie.Need-latency-of-requires-2 Inv-loop μ-loop
-latency-of-requires-2 c κs = let s = c .before .before .before .before .before .before .before .before .before .before .before in begins-next (tasksIn (s .args .gap) (s .args .tasks .now)) (s .args .places) (s .args .p) (s .args .n) (s .args .first) (s .args .state .now) (s .pre .0) _ _ _ (c .before .before .before .before .before .before .loop .inv .1) (c .before .before .before .before .before .loop-test .taken) _ _ (c .before .before .next .ensures)
+latency-of-requires-2 c κs = let s = c .before .before .before .before .before .before .before .before .before .before .before in begins-next (tasksIn (s .args .gap) (s .args .tasks .now)) (s .args .places) (s .args .p) (s .args .n) (s .args .first) (s .args .state .now) (s .pre .0) _ _ _ _ (c .before .before .before .before .before .before .loop .inv .1) (c .before .before .before .before .before .loop-test .taken) _ _ (c .before .before .next .ensures)
 
 larger-requires : tie.Need-larger-requires Inv-loop μ-loop
 larger-requires c κs = tt
@@ -45,13 +45,13 @@ loop-less c = omega (arith, c .before .before .before .before .before .before .b
 loop-again : tie.Need-loop-again Inv-loop μ-loop
 loop-again c =
     let s = c .before .before .before .before .before .before .before .before .before .before .before .before .before in
-    (c .before .before .before .before .next .kept .1 .1 .1 .1 .1 .0 ∙ c .before .before .before .before .before .before .before .before .loop .inv .0, begins-turn (tasksIn (s .args .gap) (s .args .tasks .now)) (s .args .places) (s .args .p) (s .args .n) (s .args .first) (s .args .state .now) (s .pre .0) _ _ _ (c .before .before .before .before .before .before .before .before .loop .inv .1) (c .before .before .before .before .before .before .before .loop-test .taken) _ _ (c .before .before .before .before .next .ensures) _ _ (c .before .latency-of2 .ensures) (c .larger .ensures))
+    (c .before .before .before .before .next .kept .1 .1 .1 .1 .1 .0 ∙ c .before .before .before .before .before .before .before .before .loop .inv .0, begins-turn (tasksIn (s .args .gap) (s .args .tasks .now)) (s .args .places) (s .args .p) (s .args .n) (s .args .first) (s .args .state .now) (s .pre .0) _ _ _ _ (c .before .before .before .before .before .before .before .before .loop .inv .1) (c .before .before .before .before .before .before .before .loop-test .taken) _ _ (c .before .before .before .before .next .ensures) (omega (arith, c .before .before .before .before .before .before .if1 .left)) _ _ (c .before .latency-of2 .ensures) (c .larger .ensures))
 
 same-length-2 : tie.Need-same-length-2 Inv-loop μ-loop
 same-length-2 c = c .before .loop .inv .0
 
 returns-2 : tie.Need-returns-2 Inv-loop μ-loop
-returns-2 c = let s = c .before .before .before .before .before .before in begins-all (tasksIn (s .args .gap) (s .args .tasks .now)) (s .args .places) (s .args .p) (s .args .n) (s .args .first) (s .args .state .now) (s .pre .0) _ _ _ (c .before .loop .inv .1) _ (c .loop-test .left)
+returns-2 c = let s = c .before .before .before .before .before .before in begins-all (tasksIn (s .args .gap) (s .args .tasks .now)) (s .args .places) (s .args .p) (s .args .n) (s .args .first) (s .args .state .now) (s .pre .0) _ _ _ _ (c .before .loop .inv .1) (c .loop-test .left)
 
 pub walk-spec : {M : Type 1} → statement M
 walk-spec =

@@ -2,7 +2,7 @@ use native.Mathlib.Omega.{arith}
 use Prim.Native.Nat.{_+_, _-_, _<_}
 use lib.ListN.{length}
 use Rattle.chain.specs.Flat.{givenIn}
-use Rattle.phase.proofs.Others.{Multiplied, multiplied-start, place-inside, multiplied-skip, multiplied-room, multiplied-turn, multiplied-end}
+use Rattle.phase.proofs.Others.{product-fits, Multiplied, multiplied-start, place-inside, multiplied-skip, multiplied-room, multiplied-turn, multiplied-end}
 use borrow.Author.Needs.{needs}
 use Rattle.phase.proofs.others_multiple.Statement.{statement}
 use Rattle.phase.proofs.others_multiple.Tie as tie
@@ -54,7 +54,8 @@ lcm-requires c κs =
     let i = c .before .before .before in
     let s = i .before .before .before .before in
     let l = i .before .loop in
-    multiplied-room (s .args .gap) (s .args .number) (s .args .places .now) (givenIn (s .args .tasks .now)) (s .pre) (l .multiple) (l .i) (l .inv) (i .loop-test .taken) _ (c .task-at .ensures)
+    let r = multiplied-room (s .args .gap) (s .args .number) (s .args .places .now) (givenIn (s .args .tasks .now)) (s .pre) (l .multiple) (l .i) (l .inv) (i .loop-test .taken) _ (c .task-at .ensures) in
+    (omega (arith, r .0, r .2), product-fits _ _ (omega (arith, r .1, r .3)) (omega (arith, r .3)))
 
 add-i-2 : tie.Need-add-i-2 Inv-loop μ-loop
 add-i-2 c = omega (arith, inside (c .before .before .before .before))

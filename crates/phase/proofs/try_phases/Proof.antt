@@ -8,7 +8,7 @@ use Rattle.task.specs.Jobs.{placeOf}
 use Rattle.chain.specs.Chains.{placed}
 use Rattle.chain.specs.Flat.{givenIn}
 use Rattle.stepping.specs.Standing.{Reciprocals}
-use Rattle.latency.specs.Walk.{Round}
+use Rattle.latency.specs.Walk.{RangeFrom}
 use Rattle.phase.proofs.Tries.{range-some, range-few, from-few, walk-begins, walk-constants, Trying, trying-start, trying-count, trying-end, put-is, trying-room, trying-found, trying-on}
 use borrow.Author.Needs.{needs}
 use Rattle.phase.proofs.try_phases.Statement.{statement}
@@ -43,13 +43,13 @@ turned-requires c κs = omega (arith, c .before .before .before .before .before 
 add-turned-2 : tie.Need-add-turned-2 Inv-loop μ-loop
 add-turned-2 c = let s = c .before .before .before .before .before .before .before .before .before .before .before in omega (arith, from-few _ _ _ _ _ _ _ (s .pre .0), range-few _ _ _ _ _ _ _ (s .pre .0), c .before .turned .ensures)
 
-walk-round-requires : tie.Need-walk-round-requires Inv-loop μ-loop
-walk-round-requires c κs =
+walk-range-from-requires : tie.Need-walk-range-from-requires Inv-loop μ-loop
+walk-range-from-requires c κs =
     let s = c .before .before .before .before .before .before .before .before .before .before .before in
     let l = c .before .before .before .before .before .before .before .loop in
     let small : l .phase ≤ 1000000 = omega (arith, s .pre .1, c .before .before .before .before .before .before .loop-test .taken) in
     let e = put-is (s .args .gap) (s .args .places .now) (givenIn (s .args .tasks .now)) (s .args .number) (s .args .bound) (s .args .phases) (s .args .n) (l .tasks) (l .at) (l .stride) (l .walked) (l .phase) (l .inv .1) (c .before .before .before .before .before .before .loop-test .taken) _ (c .before .before .before .before .put-phase .ensures) in (
-      subst (λ (y : List Task). Round (placed (s .args .gap) y) (length (s .args .places .now)) (s .args .p) (s .args .from + c .before .turned .result) (s .args .n)) (sym e)
+      subst (λ (y : List Task). RangeFrom (placed (s .args .gap) y) (length (s .args .places .now)) (s .args .p) (s .args .from + c .before .turned .result) (s .args .n)) (sym e)
           (walk-begins _ _ _ _ _ _ _ (s .pre .0) (s .args .number) (l .phase) small (c .before .turned .result) (c .before .turned .ensures)),
       subst (λ (y : List Task). Reciprocals (placed (s .args .gap) y) (s .args .reciprocals .now)) (sym e) (walk-constants _ _ _ _ _ _ _ (s .pre .0) (s .args .number) (l .phase) small),
     )
@@ -60,7 +60,7 @@ add-walked c =
     let w = c .before .before in
     let s = w .before .before .before .before .before .before .before .before .before .before .before in
     let l = w .before .before .before .before .before .before .before .loop in
-    trying-room (s .args .gap) (s .args .places .now) (givenIn (s .args .tasks .now)) (s .args .number) (s .args .bound) (s .args .phases) (s .args .n) (l .tasks) (l .at) (l .stride) (l .walked) (l .phase) (l .inv .1) (w .before .before .before .before .before .before .loop-test .taken) _ (w .before .before .before .before .put-phase .ensures) _ (c .before .walk-round .ensures) (s .pre .1) (range-few _ _ _ _ _ _ _ (s .pre .0))
+    trying-room (s .args .gap) (s .args .places .now) (givenIn (s .args .tasks .now)) (s .args .number) (s .args .bound) (s .args .phases) (s .args .n) (l .tasks) (l .at) (l .stride) (l .walked) (l .phase) (l .inv .1) (w .before .before .before .before .before .before .loop-test .taken) _ (w .before .before .before .before .put-phase .ensures) _ _ _ (c .before .walk-range-from .ensures) (s .pre .1) (range-few _ _ _ _ _ _ _ (s .pre .0))
     in
     omega (arith, room)
 
@@ -72,16 +72,16 @@ returns c =
     let w = c .before .before .before .before in
     let s = w .before .before .before .before .before .before .before .before .before .before .before in
     let l = w .before .before .before .before .before .before .before .loop in
-    trying-found (s .args .gap) (s .args .places .now) (givenIn (s .args .tasks .now)) (s .args .number) (s .args .bound) (s .args .phases) (s .args .n) (l .tasks) (l .at) (l .stride) (l .walked) (l .phase) (l .inv .1) (w .before .before .before .before .before .before .loop-test .taken) _ (w .before .before .before .before .put-phase .ensures) _ (c .before .before .before .walk-round .ensures) (omega (arith, c .if1 .taken))
+    trying-found (s .args .gap) (s .args .places .now) (givenIn (s .args .tasks .now)) (s .args .number) (s .args .bound) (s .args .phases) (s .args .n) (l .tasks) (l .at) (l .stride) (l .walked) (l .phase) (l .inv .1) (w .before .before .before .before .before .before .loop-test .taken) _ (w .before .before .before .before .put-phase .ensures) _ _ _ (c .before .before .before .walk-range-from .ensures) (omega (arith, c .if1 .taken))
 
 sub-turned : tie.Need-sub-turned Inv-loop μ-loop
-sub-turned c = c .before .before .before .before .walk-round .ensures .some
+sub-turned c = c .before .before .before .before .walk-range-from .ensures .some
 
 add-turned-3 : tie.Need-add-turned-3 Inv-loop μ-loop
-add-turned-3 c = let s = c .before .before .before .before .before .before .before .before .before .before .before .before .before .before .before .before in omega (arith, range-few _ _ _ _ _ _ _ (s .pre .0), c .before .before .before .before .before .before .turned .ensures, c .before .before .before .before .walk-round .ensures .few)
+add-turned-3 c = let s = c .before .before .before .before .before .before .before .before .before .before .before .before .before .before .before .before in omega (arith, range-few _ _ _ _ _ _ _ (s .pre .0), c .before .before .before .before .before .before .turned .ensures, c .before .before .before .before .walk-range-from .ensures .few)
 
 turned-requires-2 : tie.Need-turned-requires-2 Inv-loop μ-loop
-turned-requires-2 c κs = omega (arith, c .before .before .before .before .before .before .turned .ensures, c .before .before .before .before .walk-round .ensures .some, c .before .before .before .before .walk-round .ensures .few)
+turned-requires-2 c κs = omega (arith, c .before .before .before .before .before .before .turned .ensures, c .before .before .before .before .walk-range-from .ensures .some, c .before .before .before .before .walk-range-from .ensures .few)
 
 sub-turned-2 : tie.Need-sub-turned-2 Inv-loop μ-loop
 sub-turned-2 c = omega (arith, c .before .before .before .before .before .before .before .before .before .before .before .before .before .loop .inv .1 .inside)
@@ -104,7 +104,7 @@ loop-again c = (
   let w = c .before .before .before .before .before .before .before in
       let s = w .before .before .before .before .before .before .before .before .before .before .before in
       let l = w .before .before .before .before .before .before .before .loop in
-      trying-on (s .args .gap) (s .args .places .now) (givenIn (s .args .tasks .now)) (s .args .number) (s .args .bound) (s .args .phases) (s .args .n) (l .tasks) (l .at) (l .stride) (l .walked) (l .phase) (l .inv .1) (w .before .before .before .before .before .before .loop-test .taken) _ (w .before .before .before .before .put-phase .ensures) _ (c .before .before .before .before .before .before .walk-round .ensures) (omega arith) _ _ (c .before .turned2 .ensures) (c .turned3 .ensures),
+      trying-on (s .args .gap) (s .args .places .now) (givenIn (s .args .tasks .now)) (s .args .number) (s .args .bound) (s .args .phases) (s .args .n) (l .tasks) (l .at) (l .stride) (l .walked) (l .phase) (l .inv .1) (w .before .before .before .before .before .before .loop-test .taken) _ (w .before .before .before .before .put-phase .ensures) _ _ _ (c .before .before .before .before .before .before .walk-range-from .ensures) (omega arith) _ _ (c .before .turned2 .ensures) (c .turned3 .ensures),
 )
 
 same-length-2 : tie.Need-same-length-2 Inv-loop μ-loop
@@ -127,7 +127,7 @@ try-phases-spec =
     add-turned
     turned-requires
     add-turned-2
-    walk-round-requires
+    walk-range-from-requires
     add-walked
     same-length
     returns

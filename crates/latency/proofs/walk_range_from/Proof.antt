@@ -1,10 +1,10 @@
 use Rattle.chain.specs.Flat.{tasksIn}
 use Rattle.outset.specs.Range.{range-cut}
 use Rattle.latency.proofs.Walking.{first-begins}
-use Rattle.latency.proofs.Exits.{met-round}
+use Rattle.latency.proofs.Exits.{met-from}
 use borrow.Author.Needs.{needs}
-use Rattle.latency.proofs.walk_round.Statement.{statement}
-use Rattle.latency.proofs.walk_round.Tie as tie
+use Rattle.latency.proofs.walk_range_from.Statement.{statement}
+use Rattle.latency.proofs.walk_range_from.Tie as tie
 
 slice-aggregate-first : tie.Need-slice-aggregate-first
 slice-aggregate-first c = search needs
@@ -21,9 +21,9 @@ walk-requires c κs = let s = c .before .before .before .before .before .before 
 returns : tie.Need-returns
 returns c =
     let s = c .before .before .before .before .before .before .before .before in
-    met-round (tasksIn (s .args .gap) (s .args .tasks .now)) (s .args .places) (s .args .p) (s .args .from .0) (s .args .n) _ _ (s .pre .0) (rw (c .before .before .before .before .first .ensures .partition .of) at (c .before .walk .ensures))
+    met-from (tasksIn (s .args .gap) (s .args .tasks .now)) (s .args .places) (s .args .p) (s .args .from .0) (s .args .n) _ _ (s .pre .0) (rw (c .before .before .before .before .first .ensures .partition .of) at (c .before .walk .ensures))
 
-pub walk-round-spec : {M : Type 1} → statement M
-walk-round-spec =
+pub walk-range-from-spec : {M : Type 1} → statement M
+walk-range-from-spec =
     tie.close
     (tie.spec slice-aggregate-first first-requires slice-aggregate-walk walk-requires returns)
