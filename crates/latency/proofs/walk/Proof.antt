@@ -25,7 +25,7 @@ same-length : tie.Need-same-length Inv-loop μ-loop
 same-length c = c .before .before .loop .inv .0
 
 returns : tie.Need-returns Inv-loop μ-loop
-returns c = let s = c .before .before .before .before .before .before .before in begins-late (tasksIn (s .args .gap) (s .args .tasks .now)) (s .args .places) (s .args .p) (s .args .n) (s .args .first) (s .args .state .now) (s .pre .0) _ _ _ _ (c .before .before .loop .inv .1) (c .if1 .taken)
+returns c = let s = c .before .before .before .before .before .before .before in begins-late (tasksIn (s .args .gap) (s .args .tasks .now)) (s .args .places) (s .args .p) (s .args .n) (s .args .first) (s .args .state .now) (s .pre .0) _ _ _ _ (c .before .before .loop .inv .1) (omega (arith, c .if1 .taken))
 
 next-requires : tie.Need-next-requires Inv-loop μ-loop
 next-requires c κs = let s = c .before .before .before .before .before .before .before .before in begins-steps (tasksIn (s .args .gap) (s .args .tasks .now)) (s .args .places) (s .args .p) (s .args .n) (s .args .first) (s .args .state .now) (s .pre .0) _ _ _ _ (c .before .before .before .loop .inv .1) (c .before .before .loop-test .taken) _ (s .pre .1)
