@@ -718,7 +718,7 @@ def other_numbers(chain_count):
 
 
 def compare_refused(ours, r, schedule, size, compare):
-    """A schedule that is refused, or hardly not: every call on it gives the same refusal, whatever numbers of chains and whatever tick it is given."""
+    """A schedule that is refused, or hardly not: every call on it gives the same refusal, whatever numbers of chains or tasks and whatever tick or bound it is given."""
     said = told(schedule)
     compare_writing(ours, r, schedule, said, size, compare)
     number, other = r.choice([1, 1, 2, 3, 4, *other_numbers(4)]), r.choice([1, 2, 3, 4, 0, proved.LARGEST])
@@ -728,6 +728,7 @@ def compare_refused(ours, r, schedule, size, compare):
     # Without a fault the two chains may be any, on which the reference is slow.
     if fault is not None:
         compare.same(ours.bookings(schedule, number, other, t), fault, "bookings", schedule, number, other, t)
+        compare.same(ours.smallest_phase(schedule, number, other, t), fault, "phase", schedule, number, other, t)
 
 
 @group
@@ -750,7 +751,7 @@ def schedules(ours, r, factor, compare):
 
 @group
 def schedules_refused(ours, r, factor, compare):
-    """schedules refused, by writing, choosing and bookings: counts, tasks, the gap, each chain, several faults"""
+    """schedules refused, by writing, choosing, bookings and phases: counts, tasks, the gap, each chain, several faults"""
     for i in range(max(1, int(9 * factor))):
         sizes = [12] * 4 if i == 0 else inputs.some_sizes(r, i % 4 + 1)
         (tasks, chains), gap = inputs.schedule(r, 32 if i == 0 else r.randint(1, 4), sizes), inputs.file_gap(r)
@@ -845,6 +846,7 @@ def lists_of_schedules(ours, r, factor, compare):
             number = r.choice([1, len(chains), 0, proved.LARGEST])
             compare.same(ours.chain_of_schedule(short, number), eight, "chain of lists", short, number)
             compare.same(ours.bookings(short, number, 1, 0), eight, "bookings of lists", short, number)
+            compare.same(ours.smallest_phase(short, number, 1, 0), eight, "phase of lists", short, number)
         for held in just_held(r, schedule):
             compare.same(reference.schedule_fault(*told(held)), None, "lists", held)
             compare_writing(ours, r, held, told(held), 700, compare)
@@ -1039,6 +1041,145 @@ def bookings_refused(ours, r, factor, compare):
             for t in r.sample([0, 2, 3, 62, 63, inputs.UPPER, inputs.UPPER + 1, proved.LARGEST], 4):
                 compare_bookings(ours, lent, first, second, t, compare)
         compare.must_meet("ok", 5, OF_GAP, 6, 7, 8, 12, 13, 16)
+
+
+# ---- A phase that keeps a bound
+
+def moved(schedule, number, phase):
+    """The schedule with another phase of the task with that number."""
+    at = next(i for i in range(schedule.count) if schedule.tasks[4 * i] == number)
+    return dataclasses.replace(schedule, tasks=inputs.replaced(schedule.tasks, 4 * at + 3, phase))
+
+
+def compare_phase(ours, schedule, chain, number, bound, theirs, compare):
+    """One answer, which is this one of the reference."""
+    compare.same(ours.smallest_phase(schedule, chain, number, bound), theirs, "phase", schedule, chain, number, bound)
+    compare.meet_call(theirs)
+    if theirs[0] == "ok":
+        compare.note("none" if theirs[1] is None else "a later phase" if theirs[1] else "phase 0")
+
+
+def compare_phases(ours, r, schedule, chain, number, most, compare):
+    """A task of a chain with many bounds. From the latencies with each phase the answers to all of them are told; to some the reference searches itself. Each phase of today has the same answers."""
+    said = *told(schedule), chain, number
+    listed = reference.latency_at_phases_of(*said)
+    if listed[0] != "ok":
+        for bound in (0, inputs.any_number(r), proved.LARGEST):
+            compare_phase(ours, schedule, chain, number, bound, listed, compare)
+            compare.same(reference.smallest_phase_of(*said, bound), listed, "refusal", schedule, chain, number, bound)
+        return
+    latencies = listed[1]
+    period, bounds = len(latencies), inputs.phase_bounds(r, latencies, most)
+    searched = set(r.sample(bounds, 2))
+    for bound in bounds:
+        phase = next((phase for phase, latency in enumerate(latencies) if latency <= bound), None)
+        if bound in searched:
+            compare.same(reference.smallest_phase_of(*said, bound), ("ok", phase), "search", schedule, chain, number, bound)
+        today = moved(schedule, number, r.choice([0, period, r.randrange(period), r.randint(0, inputs.MOST_PHASE), inputs.MOST_PHASE])) if r.random() < 0.3 else schedule
+        compare_phase(ours, today, chain, number, bound, ("ok", phase), compare)
+        if phase and phase == period - 1:
+            compare.note("the last phase")
+    # The schedule with one of the phases, and with one from the period on, which is as its remainder.
+    phase = r.randrange(period)
+    for other in (phase, phase + period * r.randint(1, (inputs.MOST_PHASE - phase) // period)):
+        answer = analysed(ours, moved(schedule, number, other), chain, ours.sections, [])
+        compare.same(answer[::2], ("ok", latencies[phase]), "latency with a phase", schedule, chain, number, other)
+    if min(latencies) < max(latencies):
+        compare.note("hangs on the phase")
+    numbers = schedule.chain_list()[chain - 1]
+    if 1 < numbers.count(number):
+        compare.note("all places" if len(set(numbers)) == 1 else "several places")
+    task = next(task[1:] for task in schedule.task_list() if task.number == number)
+    if any(other.number != number and other[1:] == task for other in schedule.task_list() if other.number in numbers):
+        compare.note("another task alike")
+    if task[-1] >= period:
+        compare.note("today from the period on")
+
+
+PHASES = ("phase 0", "a later phase", "the last phase", "none", "hangs on the phase", "all places", "several places", "another task alike", "today from the period on")
+
+
+@group
+def phases(ours, r, factor, compare):
+    """a phase that keeps a bound: bounds around the latencies of every phase, of each task of a chain; chains that are warm late, long walks, the longest period"""
+    for _ in range(int(650 * factor)):
+        tasks, chains, gap = inputs.phase_schedule(r, 240)
+        schedule = inputs.lent_schedule(r, tasks, chains, gap)
+        chain = r.randint(1, len(chains))
+        timed = [next(task[1:] for task in tasks if task[0] == number) for number in chains[chain - 1]]
+        note_links(timed, gap, reference.warm_up(timed, gap), compare)
+        for number in sorted(set(chains[chain - 1])):
+            compare_phases(ours, r, schedule, chain, number, 5, compare)
+    compare.must_meet("ok", 20, *PHASES, *LINKS)
+    # Chains of the other groups, with the tasks of short periods.
+    for _ in range(int(150 * factor)):
+        chains, schedule = analysed_chains(r)
+        for chain, numbers in enumerate(schedule.chain_list(), start=1):
+            if inputs.phase_work(chains[chain - 1]) <= 240:
+                compare_phases(ours, r, schedule, chain, r.choice(numbers), 3, compare)
+    compare.must_meet("ok", 7, 20, "phase 0", "a later phase", "none")
+    for i in range(max(10, int(40 * factor))):
+        gap = r.choice([0, 1, inputs.MOST_GAP, r.randint(0, inputs.MOST_GAP)])
+        timed = inputs.late_chain(r, gap) if i % 4 else inputs.long_walk_chain(r)
+        tasks = [(number, *task) for number, task in zip(inputs.rising(r, len(timed)), timed)]
+        schedule = inputs.lent_schedule(r, tasks, [[number for number, _, _, _ in tasks]], gap)
+        compare_phases(ours, r, schedule, 1, min(tasks, key=lambda task: task[1])[0], 8, compare)
+    compare.must_meet("ok", "phase 0", "a later phase", "none", "hangs on the phase")
+    # Two tasks of the longest period that is searched; with the last phase of the first no value waits, so that every phase is the answer to a bound.
+    t, d, gap = inputs.MOST_SEARCHED, r.randint(1, 4000000), r.randint(0, inputs.MOST_GAP)
+    schedule = inputs.lent_schedule(r, [(3, t, d, 0), (4, t, r.randint(1, 4000000), (d + gap - 1) % t + t * r.randrange(99))], [[3, 4]], gap)
+    latencies = reference.latency_at_phases_of(*told(schedule), 1, 3)[1]
+    least = min(latencies)
+    compare.same(latencies, list(range(least + t - 1, least - 1, -1)), "phase by phase", schedule)
+    for step in (-1, 0, 1, t - 2, t - 1, t, *(r.randrange(t) for _ in range(20))):
+        compare_phase(ours, schedule, 1, 3, least + step, ("ok", None if step < 0 else max(0, t - 1 - step)), compare)
+
+
+@group
+def phases_refused(ours, r, factor, compare):
+    """a phase that keeps a bound, refused: chain numbers and task numbers in the schedule and not, faults of the schedule and of the chain, and what is just within the limits"""
+    # With a period just too long; with a hyperperiod that is too long; with short periods alone, one task at two places; with a hyperperiod at its limit and a period just not too long.
+    chains = [[(10001, 1, 3), (4, 1, 0)], [(999983, 1, 0), (61, 1, 0), (999979, 1, 0)], [(6, 7, 0), (6, 7, 1), (4, 1, 0), (6, 7, 0)], [(768, 1, 0), (78125, 1, 0), (10000, 2, 0)]]
+    for _ in range(max(1, int(3 * factor))):
+        schedule = inputs.lent_schedule(r, *inputs.numbered(r, chains), r.choice([0, 1, 3]))
+        beyond, number = r.choice(inputs.FAULTY_GAPS), r.choice(schedule.chains[24:28])
+        at = schedule.tasks[:4 * schedule.count:4].index(number)
+        faulty = [
+            schedule,
+            dataclasses.replace(schedule, gap=inputs.MOST_GAP),
+            moved(schedule, number, inputs.MOST_PHASE),
+            moved(schedule, number, inputs.MOST_PHASE + 1),
+            dataclasses.replace(schedule, count=0),
+            dataclasses.replace(schedule, chains=(schedule.chains[:39] * 2)[:61], places=[*schedule.places[:4], 1], chain_count=5),
+            dataclasses.replace(schedule, places=inputs.replaced(schedule.places, 3, 13)),
+            dataclasses.replace(schedule, lengths=(4 * schedule.count - 1, None, None)),
+            dataclasses.replace(schedule, tasks=schedule.tasks + [1]),
+            dataclasses.replace(schedule, tasks=(schedule.tasks * 33)[:132], count=33),
+            dataclasses.replace(schedule, lengths=(None, 38, None)),
+            dataclasses.replace(schedule, lengths=(None, None, 3)),
+            dataclasses.replace(schedule, tasks=inputs.replaced(schedule.tasks, 4 * at + 1, 0)),
+            dataclasses.replace(schedule, tasks=inputs.replaced(schedule.tasks, 4 * schedule.count - 2, 0)),
+            dataclasses.replace(schedule, chains=inputs.replaced(schedule.chains, 36, 0)),
+            dataclasses.replace(schedule, tasks=inputs.replaced(schedule.tasks, 1, 0), chains=inputs.replaced(schedule.chains, 0, 0)),
+            dataclasses.replace(schedule, chain_count=0, tasks=inputs.replaced(schedule.tasks, 1, 0)),
+            dataclasses.replace(schedule, gap=inputs.MOST_GAP + 1),
+            dataclasses.replace(schedule, gap=beyond),
+            dataclasses.replace(schedule, gap=beyond, chains=inputs.replaced(schedule.chains, 36, 0)),
+            dataclasses.replace(schedule, gap=beyond, tasks=inputs.replaced(schedule.tasks, 4 * schedule.count - 2, 0)),
+        ]
+        known = schedule.tasks[:4 * schedule.count:4]
+        numbers = [*known, 0, inputs.unknown(r, schedule.task_list()), inputs.MOST_NUMBER + 1, proved.LARGEST, *(number + many for many in inputs.MANY)]
+        for lent, chain, asked in itertools.product(faulty, [0, 1, 2, 3, 4, 5, 2**32 + 1, proved.LARGEST], numbers):
+            # Bounds that phase 0 keeps where a period is long, on which the reference is slow.
+            bound = r.choice([proved.LARGEST, 2**32, 2**63, r.randint(10**8, 2**63)] if chain in (1, 4) else [0, *range(34, 46), 2**32 + 34, inputs.any_number(r)])
+            compare_phase(ours, lent, chain, asked, bound, reference.smallest_phase_of(*told(lent), chain, asked, bound), compare)
+        compare.must_meet("ok", "phase 0", 5, OF_GAP, 6, 7, 8, 16, 19, 20)
+    # Periods and hyperperiods around their limits.
+    for periods in ((10000, 3), (10001, 3), (10002, 6), (768, 78125), (769, 78125), (151, 397351), (1000000, 60), (1000000, 61)):
+        schedule = inputs.lent_schedule(r, [(7, periods[0], 1, 0), (8, periods[1], 2, 5)], [[7, 8]], 0)
+        for number, bound in itertools.product((7, 8, 9), (0, proved.LARGEST)):
+            compare_phase(ours, schedule, 1, number, bound, reference.smallest_phase_of(*told(schedule), 1, number, bound), compare)
+    compare.must_meet("phase 0", "none", 7, 19, 20)
 
 
 # ---- Test loads

@@ -832,6 +832,66 @@ def pair_ticks(r, warm, common, count):
     return r.sample(some, min(count, len(some)))
 
 
+# A phase that keeps a bound.
+
+# The longest period of a task whose phases are searched, and the longest phase that a task has.
+MOST_SEARCHED, MOST_PHASE = 10000, 1000000
+# Periods of the tasks of a schedule: small ones, such as divide one another, have no common divisor, have one, have several; and short ones beside long ones, whose hyperperiods reach 60,000,000
+# with few jobs of the longest.
+PHASE_PERIODS = [range(1, 10), (1, 2, 4, 8, 16), (2, 3, 5, 7, 11), (4, 6, 9, 10, 12, 15, 20), (6, 10, 15, 30), (3, 8, 12, 20, 60, 250000, 500000, 937500, 1000000, 999983)]
+
+
+def phase_task(r, periods):
+    """A task of one of these periods: durations and phases below it, above it and at their limits."""
+    t = r.choice(periods)
+    return (t, r.choice([1, t, r.randint(1, t), r.randint(1, 40), r.randint(1, 40), r.randint(1, 4000000), 4000000]), r.choice([0, r.randint(0, t - 1), r.randint(0, 60), r.randint(0, MOST_PHASE), MOST_PHASE]))
+
+
+def late_chain(r, gap):
+    """Twelve places, one of a short period, that are warm as late as they can be: the last has the longest period, and most of the others read just before a value becomes readable. After the
+    short one it becomes readable in time with some of its phases."""
+    short, period, tick, tasks = r.randrange(MOST_PLACES - 1), r.choice([2, 4, 5, 12]), MOST_PHASE - r.randint(0, 1000), []
+    for i in range(MOST_PLACES):
+        t = period if i == short else 937500 if i < MOST_PLACES - 1 else 1000000
+        if i > 0:
+            tick += 4000000 + gap + (r.randrange(period) if i == short + 1 else -r.choice([1, 1, 1, r.randint(0, 1000)]))
+        tasks.append((t, 4000000, r.randrange(t) if i == MOST_PLACES - 1 else tick % t if i > 0 else tick))
+    return tasks
+
+
+def long_walk_chain(r):
+    """Three places, one of a short period that shares a divisor with the others, whose walk has a hundred partitions or more."""
+    return [phase_task(r, [t]) for t in r.sample([r.choice([4, 6]), 194, 278], 3)]
+
+
+def phase_work(chain):
+    """What the phases of a chain's tasks cost the reference: the partitions of all of them, times the places."""
+    periods = [t for t, _, _ in chain]
+    h = math.lcm(*periods)
+    # Of a chain that is refused nothing is walked.
+    return h // max(periods) * max([t for t in periods if t <= MOST_SEARCHED], default=0) * len(chain) if h <= MOST_HYPER else 0
+
+
+def phase_schedule(r, work):
+    """Tasks, some of them alike but for their number, and one to four chains of them, each of which costs the reference at most so much; and a gap."""
+    while True:
+        periods = r.choice(PHASE_PERIODS)
+        kinds = [phase_task(r, periods) for _ in range(r.choice([1, 2, 2, 3, 3, 4]))]
+        kinds += [r.choice(kinds)] if r.random() < 0.3 else []
+        tasks = [(number, *task) for number, task in zip(rising(r, len(kinds)), kinds)]
+        chosen = [[r.choice(tasks) for _ in range(r.choice([1, 2, 2, 3, 3, 4, 5, 12]))] for _ in range(r.randint(1, MOST_CHAINS))]
+        timed = [[task[1:] for task in chain] for chain in chosen]
+        if max(map(phase_work, timed)) <= work:
+            return tasks, [[task[0] for task in chain] for chain in chosen], some_gap(r, *timed)
+
+
+def phase_bounds(r, latencies, most):
+    """Bounds at and around the latencies of a chain with each phase, and at the ends of 64 bits; `most` of the former. One would be none with fewer bits."""
+    some = within([latency + step for latency in latencies for step in (-1, 0, 1)])
+    least, greatest = min(latencies), max(latencies)
+    return [0, least - 1, least, greatest - 1, greatest, r.choice([2**32, 2**63]) + least - 1, r.choice([2**32 - 1, 2**63, LARGEST - 1]), LARGEST, *r.sample(some, min(most, len(some)))]
+
+
 # Test loads. A draw sets the state so much further, modulo 2^64, so that each can be had by itself.
 
 DRAW_STEP = 0x9E3779B97F4A7C15

@@ -171,6 +171,11 @@ def bookings(schedule, first, second, t):
     return asked(calls.bookings, schedule, first, second, t)
 
 
+def smallest_phase(schedule, chain, number, bound):
+    """The smallest phase of the task with that number, None where no phase keeps the bound of the chain."""
+    return asked(calls.smallest_phase, schedule, chain, number, bound)
+
+
 def report(data, out):
     """The length of a report, and what the lent bytes hold after it. No call may write past them or to the file's bytes."""
     file, memory = bytearray(data + FENCE), bytearray(out + FENCE)

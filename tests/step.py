@@ -20,7 +20,7 @@ BESIDE = [
     (os.path.join("crates", "task", "src", "lib.rt"), ("read", "write")),
 ]
 # mo_sections has its loop in a function of its own, which it calls for each section.
-CALLS = [("libcapi_maker.a", "mo_make_table"), ("libcapi_sections.a", "sections::section_latency"), ("libcapi_report.a", "mo_report")]
+CALLS = [("libcapi_maker.a", "mo_make_table"), ("libcapi_sections.a", "sections::section_latency"), ("libcapi_phase.a", "mo_smallest_phase"), ("libcapi_report.a", "mo_report")]
 
 
 def text_of(path):

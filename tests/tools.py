@@ -1,4 +1,4 @@
-"""The command ./meshorchard and the host package against the reference: every command, texts both ways, wrong lines, limits, refused files in words, the package, streams.
+"""The command ./meshorchard and the host package against the reference: every command, texts both ways, wrong lines, limits, refused files in words, the package, streams, phases.
 
     python3 tests/tools.py [--count FACTOR] [--seed SEED]
 
@@ -193,6 +193,11 @@ class File(typing.NamedTuple):
         """T, D, F at the places of chain c, from 1."""
         known = {number: tuple(task) for number, *task in self.tasks}
         return [known[number] for number in self.chains[c - 1]]
+
+    def at_phase(self, task, phase):
+        """The schedule in which a task has this phase, and its file."""
+        tasks = [(number, t, d, phase if number == task else f) for number, t, d, f in self.tasks]
+        return self._replace(data=b"".join(inputs.records(tasks, self.chains, self.gap)), tasks=tasks)
 
 
 def file_of(path):
@@ -523,6 +528,100 @@ def bar_cases():
         yield f"bars of {counts} from entry {first} of width {width}", rows_of_counts(counts, width, first), right
 
 
+def phase_words(text):
+    """The chain, the task and the bound; the phase found and the greatest latency with it, or None; those of today, or None where nothing need change; whether today's keeps the bound; of each
+    other chain both latencies, or its refusal. The whole text where it has another form."""
+    latency = rf"the chain's greatest latency is {TIME}"
+    head = rf"chain {COUNT}, task (\d+), bound {TIME}: (?:none, no phase keeps it|the smallest phase that keeps it is {TIME}\n  with that phase {latency})\n"
+    now = rf"(?:  task (\d+) has that phase today: nothing need change\n|  today, with phase {TIME}, {latency}(, which keeps the bound too)?\n)"
+    found = re.fullmatch(rf"{head}{now}((?:  chain .*\n)*)", text)
+    other = rf"  chain (\d) has task (\d+) too: (?:its greatest latency becomes {TIME}, and is {TIME} today|chain (\d) is refused with (\d+): .+)"
+    rows = [re.fullmatch(other, line) for line in found[15].splitlines()] if found else [None]
+    if not all(rows) or any(row[2] != found[2] or row[7] not in (None, row[1]) for row in rows) or found[9] not in (None, found[2]):
+        return text
+    others = [(int(row[1]), int(row[8])) if row[7] else (int(row[1]), time_of(row, 3), time_of(row, 5)) for row in rows]
+    then, today = (found[i] and (time_of(found, i), time_of(found, i + 2)) for i in (5, 10))
+    return number(found[1]), int(found[2]), time_of(found, 3), then, today, bool(found[14]), others
+
+
+def phase_of(answer):
+    """What is said of a phase; the refusal, or the whole answer where it has another form."""
+    if answer.status:
+        return refused_with(answer)
+    return answer if answer.err else phase_words(answer.text())
+
+
+def latency_of(file, c):
+    """The greatest latency of a chain of a file, or its refusal."""
+    refusal = reference.check_chain(file.places(c), file.gap)
+    return reference.greatest_latency(file.places(c), file.gap) if refusal[0] == "ok" else refusal
+
+
+def phase_right(file, c, task, bound):
+    counted = [(len(chain), chain) for chain in file.chains]
+    answer = reference.smallest_phase_of(len(file.tasks), file.tasks, len(file.chains), counted, file.gap, c, task, bound)
+    if answer[0] != "ok":
+        return 1, answer[1], None
+    found, phase = answer[1], next(f for each, _, _, f in file.tasks if each == task)
+    today = phase, latency_of(file, c)
+    if found is None:
+        return c, task, bound, None, today, False, []
+    moved, others = file.at_phase(task, found), []
+    for other in [each for each, numbers in enumerate(file.chains, start=1) if each != c and task in numbers and found != phase]:
+        then, now = latency_of(moved, other), latency_of(file, other)
+        others.append((other, then[1]) if isinstance(then, tuple) else (other, then, now))
+    same = found == phase
+    return c, task, bound, (found, latency_of(moved, c)), None if same else today, not same and today[1] <= bound, others
+
+
+def phase_reasons(file, c, task, refusal):
+    """What the words on a refusal must have in them: the tasks that the chain has and the chains that the task is in, or its period and the limit."""
+    if refusal == 19:
+        tasks, others = sorted(set(file.chains[c - 1])), [each for each, numbers in enumerate(file.chains, start=1) if task in numbers]
+        where = f"{'only task is' if len(tasks) == 1 else 'tasks are'} {', '.join(map(str, tasks))}"
+        but = re.sub(r", (\d)$", r" and \1", f", but in {'chain' if len(others) == 1 else 'chains'} {', '.join(map(str, others))}") if others else ""
+        return [f"task {task} is", f"not in chain {c}, where the {where}{but}."]
+    if refusal == 20:
+        period = next(t for each, t, _, _ in file.tasks if each == task)
+        return [f"task {task} is", f"its period is {period:,} µs", "up to a period of 10,000 µs (10 ms)."]
+    return reasons(file, refusal, c)
+
+
+def phase_case(r, file, c, task, bound):
+    """The command on a file, or on its bytes, with a bound in any form, and what it should say; a refusal with its reason in words."""
+    words_of = [task, r.choice([bound, spelt(r, bound)])], ["--chain", c] if c != 1 or r.random() < 0.5 else []
+    path, given = (file.path, b"") if file.path else ("-", file.data)
+    answer = called("phase", *r.choice([[path, *words_of[0], *words_of[1]], [*words_of[1], path, *words_of[0]]]), stdin=given)
+    found, right = phase_of(answer), phase_right(file, c, task, bound)
+    if len(right) == 3 and len(found) == 3 and right[1] != 16:
+        found = found, lacking(answer, phase_reasons(file, c, task, right[1]))
+        right = right, []
+    return f"phase of task {task} in chain {c} for {words_of}: {file.tasks} {file.chains} {file.gap} {answer.err}", found, right
+
+
+def phase_bounds(r, file, c, task):
+    """Bounds around the greatest latency of today and the least of some phases, and the ends of 64 bits."""
+    if reference.check_chain(file.places(c), file.gap)[0] != "ok":
+        return [0, 5000, 10**9, 2**64 - 1]
+    period = next((t for each, t, _, _ in file.tasks if each == task), 1)
+    today, least = latency_of(file, c), min(latency_of(file.at_phase(task, r.randrange(period)), c) for _ in range(4))
+    return [today + r.choice([-1, 0, 1]), least - 1, least, least, least, least + 1, (today + least) // 2, r.choice([0, 2**64 - 1])]
+
+
+def phase_cases(r, file):
+    """Every task of each chain whose phases the reference tries quickly, tasks that are not in it, and chains that there are not."""
+    for c, numbers in enumerate(file.chains, start=1):
+        places = file.places(c)
+        work = {task: t * (math.lcm(*[each[0] for each in places]) // max(each[0] for each in places)) for task, (t, _, _) in zip(numbers, places)}
+        quick = [task for task in work if work[task] <= 20000 or reference.check_chain(places, file.gap)[0] != "ok" or dict(zip(numbers, places))[task][0] > 10000]
+        others = [task for task, _, _, _ in file.tasks if task not in numbers] + [0, 65536, 2**64 - 1]
+        for task in quick[:3] + r.sample(others, 2):
+            for bound in r.sample(phase_bounds(r, file, c, task), 2):
+                yield phase_case(r, file, c, task, bound)
+    for c in (0, len(file.chains) + 1, 2**64 - 1):
+        yield f"phase in chain {c}", refused_with(called("phase", file.path, file.tasks[0][0], 5000, "--chain", c)), (1, 16, None)
+
+
 def picture_faults(data):
     """What is wrong with an SVG."""
     try:
@@ -568,6 +667,7 @@ def accepted_cases(r, folder, file):
     yield from windows_cases(r, file)
     yield from sections_cases(r, file)
     yield from histogram_cases(r, file)
+    yield from phase_cases(r, file)
     yield from picture_cases(folder, file, [*map(int, chains), int(any(chains) or no_common(file) or not all(chain[-1] for chain in check_right(file)[3]))])
 
 
@@ -593,11 +693,12 @@ def refused_files(r, folder):
 
 def arguments_for(word, path, out):
     """The command on a file."""
-    more = {"delay": [10**6], "age": [10**6], "pair": [10**6, 1, 1], "windows": [5000, 10], "sections": [1], "histogram": ["--width", "5ms"], "curve": ["-o", out], "page": ["-o", out]}
+    more = {"delay": [10**6], "age": [10**6], "pair": [10**6, 1, 1], "windows": [5000, 10], "sections": [1], "histogram": ["--width", "5ms"], "phase": [10, "129.5ms"], "curve": ["-o", out],
+            "page": ["-o", out]}
     return [word, path, *more.get(word, [])]
 
 
-ON_FILES = ("text", "check", "report", "delay", "age", "pair", "windows", "sections", "histogram", "curve", "page")
+ON_FILES = ("text", "check", "report", "delay", "age", "pair", "windows", "sections", "histogram", "phase", "curve", "page")
 
 
 def refused_cases(r, folder):
@@ -641,13 +742,14 @@ def wrong_use_cases(folder):
     some += [(["histogram", LASER, *words], "--width") for words in ([], ["5ms"], ["--width"])] + [(["histogram", "--width", "5ms"], "FILE"), (["histogram", LASER, "--width", "5ms", "-o"], "-o")]
     # A width with more bars than are shown; the picture is not made either.
     some += [(["histogram", LASER, "--width", "1", *more], "105,000 bars") for more in ([], ["-o", out], ["-o", "-"])]
-    some += [(["explain"], "N")] + [(["explain", word], word) for word in ("0", "19", "18446744073709551616", "x", "-1", "1.5")] + [(["explain", "5", "x"], "x")]
+    some += [(["explain"], "N")] + [(["explain", word], word) for word in ("0", "21", "18446744073709551616", "x", "-1", "1.5")] + [(["explain", "5", "x"], "x")]
+    some += [(["phase", LASER], "TASK"), (["phase", LASER, "10"], "BOUND"), (["phase", LASER, "10", "5", "7"], "7"), (["phase", LASER, "10", "129.5", "ms"], "129.5"), (["phase", LASER, "10", "5ms", "-o"], "-o")]
     for bad in ("-1", "x", "1.5", "18446744073709551616", "5ns", "1,0", "", "١", "1e3", "0.0000001s"):
         wrong = (["delay", LASER, bad], ["age", LASER, bad, "1"], ["pair", LASER, bad, "1", "1"], ["windows", LASER, bad, "5"], ["page", LASER, "-o", out, "--bound", bad])
-        some += [(arguments, bad) for arguments in (*wrong, ["histogram", LASER, "--width", bad], ["histogram", LASER, "--width", bad, "-o", out])]
+        some += [(arguments, bad) for arguments in (*wrong, ["histogram", LASER, "--width", bad], ["histogram", LASER, "--width", bad, "-o", out], ["phase", LASER, "10", bad, "-o", out])]
     for bad in ("-1", "x", "1.5", "18446744073709551616", "1ms", ""):
         wrong = (["delay", LASER, "5", bad], ["pair", LASER, "5", "1", bad], ["windows", LASER, "5", bad], ["sections", LASER, bad], ["sections", LASER, "1", "--chain", bad], ["curve", LASER, "-o", out, "--chain", bad], ["page", LASER, "-o", out, "--jobs", bad])
-        some += [(arguments, bad) for arguments in (*wrong, ["histogram", LASER, "--width", "5ms", "--chain", bad])]
+        some += [(arguments, bad) for arguments in (*wrong, ["histogram", LASER, "--width", "5ms", "--chain", bad], ["phase", LASER, bad, "130ms", "-o", out], ["phase", LASER, "10", "130ms", "--chain", bad])]
     for arguments, word in some:
         answer = called(*arguments)
         yield " ".join(map(str, arguments)), (answer.status, answer.out, word in answer.err, "Traceback" in answer.err, content(out)), (2, b"", True, False, None)
@@ -657,8 +759,9 @@ def like_processes(folder, files):
     """./meshorchard gives what the calls in this process give."""
     out = os.path.join(folder, "out")
     some = [arguments_for(word, path, out) for path in files for word in ON_FILES if word not in ("curve", "page")]
-    some += [["explain", "5", "18"], ["explain", "18"], ["explain", "19"], ["delay", LASER, "95ms"], ["delay", LASER, "x"], []]
+    some += [["explain", "5", "18"], ["explain", "20"], ["explain", "21"], ["delay", LASER, "95ms"], ["delay", LASER, "x"], []]
     some += [["histogram", LASER, "--width", width, *more] for width, more in (("0", []), ("1", []), ("20 ms", ["--chain", "1"]), ("20ms", ["-o", "-"]), ("0", ["-o", "-"]))]
+    some += [["phase", LASER, *words] for words in (["10", "130 ms"], ["10", "129.5ms", "-o", "-"], ["20", "1ms"], ["20", "1ms", "-o", "-"], ["20", "1ms", "-o", out], ["30", "130ms"], ["40", "130ms", "--chain", "1"])]
     for arguments, answer in zip(some, ran_all([(arguments,) for arguments in some])):
         yield f"./meshorchard {' '.join(map(str, arguments))}", answer, called(*arguments)
 
@@ -684,7 +787,7 @@ def commands(r, factor):
         yield from bar_cases()
         for jobs in (0, 101):
             yield f"page with windows of {jobs} jobs, which are refused with 15", called("page", LASER, "-o", os.path.join(folder, "out"), "--jobs", jobs).status, 1
-        for refusal in range(1, 19):
+        for refusal in range(1, 21):
             answer = called("explain", refusal)
             yield f"explain {refusal}", (answer.status, answer.text().startswith(f"{refusal}: "), answer.text().count("\n") >= 2, answer.err), (0, True, True, "")
         yield from like_processes(folder, [LASER, os.path.join(folder, "long.schedule"), os.path.join(folder, "refused-5.schedule"), os.path.join(folder, "missing")])
@@ -935,7 +1038,7 @@ EXPLAINED = {
     6: ("names a task",), 7: ("hyperperiod is too long", "60,000,000"), 8: ("too many or too few", "1 to 32", "1 to 4", "1 to 12"), 9: ("the cut is at no place",),
     10: ("starts and the latencies differ in length",), 11: ("too little room", "698", "1,024"), 12: ("too early", "warm-up tick"), 13: ("too late", "1,000,000,000,000"),
     14: ("not well-formed", "1,000,000,000", "60,011,000"), 15: ("window is outside", "1 to 100"), 16: ("no chain of that number", "from 1"),
-    17: ("do not part the chain", "1 to the number of places less 1"), 18: ("width is 0", "1 tick or more"),
+    17: ("do not part the chain", "1 to the number of places less 1"), 18: ("width is 0", "1 tick or more"), 19: ("not in the chain", "fills a place"), 20: ("period is too long", "10,000 ticks", "10 ms"),
 }
 # What it must say of a place, and what it must not.
 PLACES = {
@@ -1148,6 +1251,8 @@ def refused_in_words(r, factor):
 CHAIN_A = Chain.of([(4, 4, 0), (6, 6, 0)])
 SCHEDULE_A = Schedule.of([(1, 4, 4, 0), (2, 6, 6, 0)], [[1, 2], [2]])
 TABLE_A = Table([0, 8], [18, 16], 2, 12)
+# The greatest latency of chain 1 at the phases 0 to 9 of task 3 is 43, but 33 at the phases 5, 6 and 7.
+THREES = Schedule.of([(3, 10, 3, 7), (9, 20, 5, 0)], [[3, 9, 3]])
 FILE_A = b"".join(inputs.records([(1, 4, 4, 0), (2, 6, 6, 0)], [[1, 2], [2]], 0))
 # Each call of the header with chain A of the specification: its arguments, and what README, header or reference say that it answers.
 ANSWERS = {
@@ -1158,7 +1263,7 @@ ANSWERS = {
     "windows": ((CHAIN_A, 13, 3), reference.windows([(4, 4, 0), (6, 6, 0)], 0, 13, 3)[1:]), "read_file": ((FILE_A,), ([1, 4, 4, 0, 2, 6, 6, 0, *[0] * 120], 2, [1, 2, *[0] * 10, 2, *[0] * 35], [2, 1, 0, 0], 2, 0, (None, None, None))),
     "sections": ((CHAIN_A, [1]), ((8, 12), 20)), "write_file": ((SCHEDULE_A, bytearray(698)), len(FILE_A)), "chain_of_schedule": ((SCHEDULE_A, 1), ([4, 4, 0, 6, 6, 0], 2, 0)),
     "bookings": ((SCHEDULE_A, 1, 2, 0), reference.bookings([(4, 4, 0), (6, 6, 0)], 0, [(6, 6, 0)], 0, 0)[1:]),
-    "report": ((FILE_A, bytearray(92000)), len(reference.report(FILE_A))),
+    "smallest_phase": ((THREES, 1, 3, 33), 5), "report": ((FILE_A, bytearray(92000)), len(reference.report(FILE_A))),
     "load": ((0, 3), ([10000, 10000, 8591, 10000, 10000, 7183, 40000, 40000, 26767], 3, 0)),
 }
 # What each refusal comes from: a call and its arguments, with the place.
@@ -1169,6 +1274,7 @@ REFUSALS = {
     11: (calls.make_table, (CHAIN_A, 1, array("Q", bytes(8)), array("Q", bytes(8))), 0), 12: (calls.age, (CHAIN_A, 11), 0),
     13: (calls.delay, (CHAIN_A, 10**12 + 1), 0), 14: (calls.greatest, (dataclasses.replace(TABLE_A, hyperperiod=0),), 0), 15: (calls.windows, (CHAIN_A, 5, 101), 0),
     16: (calls.chain_of_schedule, (SCHEDULE_A, 3), 0), 17: (calls.sections, (CHAIN_A, [1, 1]), 0), 18: (calls.histogram, (TABLE_A, 0, array("Q", [7])), 0),
+    19: (calls.smallest_phase, (SCHEDULE_A, 2, 1, 18), 0), 20: (calls.smallest_phase, (Schedule.of([(1, 10001, 4, 0)], [[1]]), 1, 1, 10**6), 0),
     5: (calls.check, (Chain.of([(4, 4, 0), (0, 6, 0)]),), 2), 6: (calls.write_file, (Schedule.of([(1, 4, 4, 0)], [[1, 1, 9]]), bytearray(698)), 3),
     1: (calls.read_file, (FILE_A[:-1],), len(FILE_A) - 4), 2: (calls.read_file, (b"\3\0\1\0",), 0), 3: (calls.read_file, (b"\4\0\5\0",), 0),
     4: (calls.read_file, (FILE_A + b"x",), len(FILE_A)),
@@ -1184,7 +1290,7 @@ def declared_cases():
     """Every call of the header is a typed function with the answer that it should have."""
     with open(os.path.join(TOP, "include", "meshorchard.h"), encoding="utf-8") as header:
         names = re.findall(r"^\w+ mo_(\w+)\(", re.sub(r"/\*.*?\*/", "", header.read(), flags=re.DOTALL), re.MULTILINE)
-    assert len(names) == len(set(names)) == len(ANSWERS) == 20, names
+    assert len(names) == len(set(names)) == len(ANSWERS) == 21, names
     for name in names:
         function = getattr(calls, name, None)
         typed = callable(function) and all(each.annotation is not each.empty for each in inspect.signature(function).parameters.values())
@@ -1192,13 +1298,16 @@ def declared_cases():
         arguments, right = ANSWERS[name]
         found = function(*arguments)
         yield f"calls.{name}", shape(found), right
-        yield f"calls.{name} answers what its type says", isinstance(found, eval(function.__annotations__["return"], vars(calls))), True
+        kind = eval(function.__annotations__["return"], vars(calls))
+        yield f"calls.{name} answers what its type says", isinstance(found, typing.get_args(kind) or kind), True
     yield "calls.read_file", (calls.read_file(FILE_A).task_list(), calls.read_file(FILE_A).chain_list()), ([(1, 4, 4, 0), (2, 6, 6, 0)], [[1, 2], [2]])
     yield "what calls.histogram leaves", list(ANSWERS["histogram"][0][2]), [0, 0, 6]
     for width, length in ((1, 19), (1, 0), (5, 4), (5, 5), (5, 0), (18, 1), (19, 1), (2**64 - 1, 1), (2**64 - 1, 0), (2**63, 3)):
         counts = array("Q", [7] * length)
         rest = calls.histogram(TABLE_A, width, counts)
         yield f"calls.histogram of width {width} and {length} counts", ("ok", list(counts), rest), reference.histogram(*shape(TABLE_A), width, length)
+    for bound, right in ((0, None), (32, None), (33, 5), (42, 5), (43, 0), (2**64 - 1, 0)):
+        yield f"calls.smallest_phase for a bound of {bound}", calls.smallest_phase(THREES, 1, 3, bound), right
     for seed, places in ((0, 1), (1, 2), (2**64 - 1, 12), (2**63, 11), (0xDEADBEEF, 4)):
         chain, right = calls.load(seed, places), Chain.of(reference.load(seed, places)[1])
         yield f"calls.load of seed {seed} and {places} places, as a chain", (chain, proved.answered(calls.check, chain)), (right, ("ok", max(right.tasks[::3])))
@@ -1213,7 +1322,7 @@ def refusal_cases():
             words = refused.words
             found = refused.number, refused.place, isinstance(words, str) and len(words) > 20, words in str(refused), str(refusal) in str(refused)
         yield f"refusal {refusal} of calls.{call.__name__}", found, (refusal, place, True, True, True)
-    yield "a refusal for each number of the header", sorted(REFUSALS), list(range(1, 19))
+    yield "a refusal for each number of the header", sorted(REFUSALS), list(range(1, 21))
     for table, width, refusal in ((TABLE_A, 0, 18), (dataclasses.replace(TABLE_A, anchors=3), 0, 14), (dataclasses.replace(TABLE_A, anchors=3), 5, 14)):
         counts = array("Q", [7, 8, 9])
         yield f"a histogram that is refused with {refusal}, and its list", (proved.answered(calls.histogram, table, width, counts), list(counts)), (("refused", refusal, 0), [7, 8, 9])
@@ -1230,7 +1339,8 @@ def beyond():
             (calls.read_table, TABLE_A, value), (calls.exceedance, TABLE_A, value), (calls.histogram, TABLE_A, value, array("Q", bytes(8))),
             (calls.make_table, CHAIN_A, value, array("Q", bytes(8)), array("Q", bytes(8))), (calls.chain_of_schedule, SCHEDULE_A, value),
             (calls.bookings, SCHEDULE_A, value, 1, 5), (calls.bookings, SCHEDULE_A, 1, value, 5),
-            (calls.bookings, SCHEDULE_A, 1, 1, value), (calls.check, dataclasses.replace(CHAIN_A, gap=value)), (calls.check, dataclasses.replace(CHAIN_A, places=value)),
+            (calls.bookings, SCHEDULE_A, 1, 1, value), (calls.smallest_phase, SCHEDULE_A, value, 2, 18), (calls.smallest_phase, SCHEDULE_A, 1, value, 18),
+            (calls.smallest_phase, SCHEDULE_A, 1, 2, value), (calls.check, dataclasses.replace(CHAIN_A, gap=value)), (calls.check, dataclasses.replace(CHAIN_A, places=value)),
             (calls.check, Chain.of([(4, 4, value)])), (calls.greatest, dataclasses.replace(TABLE_A, anchors=value)),
             (calls.greatest, dataclasses.replace(TABLE_A, hyperperiod=value)), (calls.greatest, dataclasses.replace(TABLE_A, starts=[0, value])),
             (calls.write_file, dataclasses.replace(SCHEDULE_A, gap=value), bytearray(698)), (calls.write_file, dataclasses.replace(SCHEDULE_A, count=value), bytearray(698)),
@@ -1285,6 +1395,9 @@ BREACHES = [
     ("mo_load", calls.load, (5, 1), leaves(0, [2500, 2500, 307, 1])), ("mo_load", calls.load, (5, 11), leaves(0, [2500] * 35 + [1])), ("mo_load", calls.load, (5, 11), leaves(0, [2500] * 35)),
     ("mo_load", calls.load, (5, 13), leaves(8, None)), ("mo_load", calls.load, (5, 13), leaves(8, [0] * 35 + [1])), ("mo_load", calls.load, (5, 13), leaves(8, [2500])), ("mo_load", calls.load, (5, 13), leaves(0, [2500] * 36)),
     ("mo_load", calls.load, (5, 0), leaves(8, None)), ("mo_load", calls.load, (5, 0), leaves(8, [2500])), ("mo_load", calls.load, (5, 0), leaves(0, [])),
+    *[("mo_smallest_phase", calls.smallest_phase, (THREES, 1, 3, 33), leaves(*left)) for left in (
+        (0, None, None), (0, [5], None), (0, None, [0]), (0, None, [1]), (0, [5], [1]), (0, [5], [2]), (0, [0], [2]), (19, [5], [0]), (20, [0], [1]), (7, None, None), (16, [0], None),
+    )],
     ("mo_bookings", calls.bookings, (SCHEDULE_A, 1, 2, 0), leaves(16, [0, 0, 0, 1])), ("mo_report", calls.report, (FILE_A, bytearray(9)), leaves(0, None)),
 ]
 
@@ -1376,6 +1489,20 @@ def library_cases(folder):
         yield f"{arguments} without a shared object", (answer.status, bool(answer.out), answer.err), (0, True, "")
 
 
+def making_cases(folder):
+    """What needs the calls has them made first, and stops where that fails; help and `explain` need none, and a shared object that is named is not made."""
+    os.mkdir(os.path.join(folder, "host"))
+    program = shutil.copy(PROGRAM, folder)
+    os.chmod(put(folder, "host/library", b"#!/bin/sh\necho not made >&2\nexit 2\n"), 0o755)
+    put(folder, "host/__main__.py", b"print('begun')\n")
+    begun, stopped = (0, b"begun\n", b""), (2, b"", b"not made\n")
+    for words_of, more, right in [([word], {}, stopped) for word in ("write", *ON_FILES)] + [
+        (["explain", "5"], {}, begun), (["--help"], {}, begun), ([], {}, begun), (["phase", "--help"], {}, begun), (["phase", LASER], {"MESHORCHARD_LIBRARY": "named.so"}, begun),
+    ]:
+        done = subprocess.run([program, *words_of], env=surroundings(**more), capture_output=True)
+        yield f"{words_of} where the calls cannot be made, with {more}", (done.returncode, done.stdout, done.stderr), right
+
+
 @group
 def package(r, factor):
     """the package: every call, every refusal, numbers beyond 64 bits, a missing shared object, Python 3.9"""
@@ -1384,8 +1511,9 @@ def package(r, factor):
     yield from breach_cases()
     yield from buffer_cases()
     yield from beyond_cases()
-    with tempfile.TemporaryDirectory() as folder:
-        yield from library_cases(folder)
+    for part in (library_cases, making_cases):
+        with tempfile.TemporaryDirectory() as folder:
+            yield from part(folder)
     sources = glob.glob(os.path.join(TOP, "host", "**", "*.py"), recursive=True)
     assert len(sources) >= 5
     for path in sources:
@@ -1417,6 +1545,9 @@ def stream_cases(folder):
     called("histogram", LASER, "--width", "5ms", "-o", out)
     answers = ran_all([(["histogram", LASER, "--width", "5ms", "-o", "-"],), (["histogram", "-", "--width", "5ms", "-o", "-"], content(LASER))])
     yield "histogram -o -", [(answer.status, answer.err, answer.out.replace(b"standard input", b"laser")) for answer in answers], [(0, "", content(out))] * 2
+    beside = called("phase", LASER, "10", "129.5ms", "-o", out).text().replace(out, "standard output")
+    answers = ran_all([(["phase", LASER, "10", "129.5ms", "-o", "-"],), (["phase", "-", "10", "129.5ms", "-o", "-"], content(LASER))])
+    yield "phase -o -", [(answer.status, answer.out, answer.err) for answer in answers], [(0, content(out), beside)] * 2
     for source, stdin in ((LASER_TEXT, b""), ("-", content(LASER_TEXT))):
         answer = ran(["write", source, "-"], stdin)
         yield f"write {source} -", (answer.status, answer.out, "task 10 period 2500" in answer.err), (0, content(LASER), True)
@@ -1426,7 +1557,7 @@ def stream_cases(folder):
 
 def printing(out):
     """Every command as it prints on standard output."""
-    return [arguments_for(word, LASER, "-") for word in ON_FILES] + [["write", LASER_TEXT, "-"], ["write", LASER_TEXT, out], ["explain", "5"], ["--help"], ["check", "--help"]]
+    return [arguments_for(word, LASER, "-") for word in ON_FILES] + [["write", LASER_TEXT, "-"], ["write", LASER_TEXT, out], ["phase", LASER, "10", "129.5ms", "-o", "-"], ["phase", LASER, "10", "129.5ms", "-o", out], ["explain", "5"], ["--help"], ["check", "--help"]]
 
 
 def unwritable_cases(folder):
@@ -1443,7 +1574,7 @@ def unwritable_cases(folder):
                 yield f"{arguments} on a standard output that is {name}: {answer.err[-200:]}", found, (2, name != "without a reader", False)
     os.close(gone)
     for path in ("/dev/full", folder, os.path.join(folder, "missing", "out")):
-        for arguments in (["write", LASER_TEXT, path], ["curve", LASER, "-o", path], ["histogram", LASER, "--width", "5ms", "-o", path], ["page", LASER, "-o", path]):
+        for arguments in (["write", LASER_TEXT, path], ["curve", LASER, "-o", path], ["histogram", LASER, "--width", "5ms", "-o", path], ["phase", LASER, "10", "129.5ms", "-o", path], ["page", LASER, "-o", path]):
             answer = called(*arguments)
             yield f"{arguments}", (answer.status, answer.out, path in answer.err and "cannot be written" in answer.err, "Traceback" in answer.err), (2, b"", True, False)
 
@@ -1462,7 +1593,7 @@ def unreadable_cases():
 def same_file_cases(folder):
     """An output that is the input, by whatever name: status 2, and the input is kept."""
     text, data = content(LASER_TEXT), content(LASER)
-    drawn = [["curve", None, "-o", None], ["histogram", None, "--width", "5ms", "-o", None], ["page", None, "-o", None]]
+    drawn = [["curve", None, "-o", None], ["histogram", None, "--width", "5ms", "-o", None], ["phase", None, "10", "129.5ms", "-o", None], ["page", None, "-o", None]]
     for name, held, form in (("same.txt", text, ["write", None, None]), *[("same.schedule", data, form) for form in drawn]):
         path = put(folder, name, held)
         hard, soft = os.path.join(folder, f"{form[0]}-hard"), os.path.join(folder, f"{form[0]}-soft")
@@ -1476,7 +1607,7 @@ def same_file_cases(folder):
 
 def redirected_cases(folder):
     """The same where the input is a redirected standard input."""
-    for name, held, arguments in (("same.txt", content(LASER_TEXT), ["write", "-"]), ("same.schedule", content(LASER), ["page", "-", "-o"])):
+    for name, held, arguments in (("same.txt", content(LASER_TEXT), ["write", "-"]), ("same.schedule", content(LASER), ["page", "-", "-o"]), ("same.schedule", content(LASER), ["phase", "-", "10", "129.5ms", "-o"])):
         path = put(folder, name, held)
         with open(path, "rb") as stream:
             answer = ran([*arguments, path], stdin=stream)
@@ -1529,6 +1660,181 @@ def streams(r, factor):
         with tempfile.TemporaryDirectory() as folder:
             yield from part(folder)
     yield from unreadable_cases()
+
+
+# ---- 8: a phase that keeps a bound
+
+# A schedule, the chain and the task, and bounds with the phases that they have: the worked examples, a gap, a period at its limit, a task at every place, and four chains.
+FOUR = [(1, 4, 1, 0), (2, 6, 2, 0), (3, 6, 3, 1)], [[1, 2], [2], [2, 3], [2, 2]], 0
+PHASES = [
+    ([(1, 4, 4, 0), (2, 6, 6, 0)], [[1, 2]], 0, 1, 2, {0: None, 17: None, 18: 0, 19: 0, 2**64 - 1: 0}),
+    ([(1, 4, 4, 1), (2, 6, 6, 0)], [[1, 2]], 0, 1, 2, {17: None, 18: 1, 19: 0}),
+    ([(1, 4, 4, 0), (2, 6, 6, 1)], [[1, 2]], 1, 1, 2, {18: None, 19: 1, 20: 0}),
+    ([(3, 10, 3, 7), (9, 20, 5, 0)], [[3, 9, 3]], 0, 1, 3, {32: None, 33: 5, 42: 5, 43: 0}),
+    ([(3, 10, 3, 7), (9, 20, 5, 0)], [[3, 9, 3]], 1, 1, 3, {32: None, 33: 6, 43: 0}),
+    ([(1, 5, 1, 0), (2, 10, 2, 0)], [[1, 2]], 0, 1, 1, {12: None, 13: 4, 14: 3, 15: 2, 16: 1, 17: 0}),
+    ([(5, 10, 2, 0), (6, 10, 1, 95)], [[5, 6]], 0, 1, 6, {12: None, 13: 2, 16: 2, 20: 2, 21: 0}),
+    ([(7, 10000, 3, 9999)], [[7]], 0, 1, 7, {10002: None, 10003: 0}),
+    ([(1, 10000, 1, 0), (2, 10000, 1, 0)], [[1, 2]], 0, 1, 1, {10001: None, 10002: 9999, 10003: 9998}),
+    ([(65535, 5, 5, 1000000)], [[65535] * 12], 0, 1, 65535, {64: None, 65: 0}),
+    (*FOUR, 1, 2, {10: None, 11: 1, 12: 0}), (*FOUR, 2, 2, {7: None, 8: 0}), (*FOUR, 3, 2, {10: None, 11: 5, 13: 3, 16: 0}), (*FOUR, 4, 2, {13: None, 14: 0}),
+]
+
+
+def unnamed(tasks, chains, gap):
+    """A schedule file that is given on standard input."""
+    return File("", b"".join(inputs.records(tasks, chains, gap)), tasks, chains, gap)
+
+
+def worked_phases(r):
+    """The phases that were worked out by hand, by the command and by the reference, and as files."""
+    for tasks, chains, gap, c, task, found in PHASES:
+        file = unnamed(tasks, chains, gap)
+        for bound, phase in found.items():
+            told_of = phase_of(called("phase", "-", task, bound, "--chain", c, stdin=file.data))
+            yield f"the phase of task {task} in {chains} of {tasks} for {bound}", told_of[3] and told_of[3][0] if len(told_of) == 7 else told_of, phase
+            yield phase_case(r, file, c, task, bound)
+            yield written_phase(r, file, c, task, bound)
+
+
+def written_phase(r, file, c, task, bound):
+    """With -o: the file is that of the schedule with the phase found; the words are those without it, and then what stands in the file. With none a file that is there stays."""
+    right = phase_right(file, c, task, bound)
+    with tempfile.TemporaryDirectory() as folder:
+        out = r.choice([os.path.join(folder, "out"), put(folder, "there", b"as it was"), "-"])
+        kept = content(out)
+        answer = called("phase", "-", task, bound, "--chain", c, "-o", out, stdin=file.data)
+        # Beside bytes on standard output the words are on standard error.
+        held, words_of, rest = (answer.out or None, answer.err, "") if out == "-" else (content(out), answer.text(), answer.err)
+    name = "standard output" if out == "-" else out
+    what = f"phase of task {task} in chain {c} for {bound} to {name}: {file.tasks} {file.chains} {file.gap}"
+    if len(right) == 3:
+        return what, (refused_with(answer), held), (right, kept)
+    if right[3] is None:
+        words_of, _, last = (words_of + rest).rstrip("\n").rpartition("\n")
+        return what, (answer.status, phase_words(words_of + "\n"), last, held), (1, right, f"{name} is not written: no phase keeps the bound.", kept)
+    moved = file.at_phase(task, right[3][0])
+    shows = f"{name}: {len(moved.data)} bytes; the instrument will read\n{canonical(moved.tasks, moved.chains, moved.gap).decode()}"
+    words_of, shown, notes = words_of.partition(shows)
+    found = answer.status, phase_words(words_of), shown == shows, noted(notes + rest), held, reference.read_file(held or b"")
+    return what, found, (0, right, True, too_long(moved.tasks, moved.chains), moved.data, ("ok", moved.tasks, moved.chains, moved.gap))
+
+
+def phase_refusals(r):
+    """Every refusal, at its limit and in its turn; whatever the bound."""
+    tasks = [(2, 10000, 1, 0), (5, 10001, 1, 0), (6, 1000000, 1, 0), (7, 999983, 1, 0), (8, 999979, 1, 0), (9, 4, 1, 0)]
+    file = unnamed(tasks, [[9, 5, 9], [6], [7, 8, 2], [2, 6]], 3)
+    for c, task, refusal in (
+        (1, 5, 20), (1, 6, 19), (1, 2, 19), (1, 0, 19), (1, 1, 19), (1, 65536, 19), (1, 2**64 - 1, 19), (2, 6, 20), (2, 2, 19), (2, 9, 19), (3, 7, 7), (3, 2, 7), (3, 9, 7), (3, 0, 7),
+        (4, 6, 20), (4, 5, 19), (0, 2, 16), (5, 2, 16), (5, 0, 16), (2**64 - 1, 6, 16),
+    ):
+        for bound in (0, 10**6, 2**64 - 1):
+            answer = called("phase", "-", task, bound, "--chain", c, stdin=file.data)
+            yield f"phase of task {task} in chain {c} for {bound}", refused_with(answer), (1, refusal, None)
+            yield f"the same in words: {answer.err}", lacking(answer, ["has 4 chains"] if refusal == 16 else phase_reasons(file, c, task, refusal)), []
+            yield written_phase(r, file, c, task, bound)
+
+
+def some_phase_schedules(r, count):
+    """Schedules of few tasks, so that a task fills several places of several chains, with the number of a chain and of a task. In some a chain has a hyperperiod or a period that is too long."""
+    for _ in range(count):
+        periods = r.choice([[4, 6, 12], [10, 20], [6], [5, 10], [8, 16, 40], [1, 3, 9], [25, 50, 100], [5, 6, 9]])
+        short = [(r.choice(periods), r.choice([1, 3, r.randint(1, 40), 4000000]), r.choice([0, r.randint(0, 60), r.randint(0, 9), 1000000])) for _ in range(r.randint(1, 4))]
+        long = r.choice([[], [], [(999983, 1, 0), (999979, 1, 0)], [(10001, 5, 7)]])
+        numbers = inputs.rising(r, len(short + long))
+        chains = [r.choices(numbers[:len(short)], k=r.choice([1, 2, 2, 3, 4, 5])) for _ in range(r.randint(1, 3))]
+        if long:
+            chains.insert(r.randint(0, len(chains)), [r.choice(chains[0]), *numbers[len(short):]])
+        c = r.randint(1, len(chains))
+        file = unnamed([(number, *task) for number, task in zip(numbers, short + long)], chains, r.choice([0, 0, 1, r.randint(1, 30), r.randint(1, 1000)]))
+        yield file, c, r.choice(chains[c - 1] * 4 + numbers)
+
+
+def many_anchors(r):
+    """A table with more anchors than a report has room for, which a file with it is noted for."""
+    file = unnamed([(1, 2, 1, 1), (2, 1030, 7, 5), (3, 1031, 9, 4)], [[1, 2, 3], [1]], 1)
+    assert (11, 0) in reports.refusals(file.data).values()
+    for bound in phase_bounds(r, file, 1, 1):
+        yield phase_case(r, file, 1, 1, bound)
+        yield written_phase(r, file, 1, 1, bound)
+    answer = called("phase", "-", 1, 10**6, "-o", "-", stdin=file.data)
+    yield f"the note of {answer.err}", re.findall(r"^note: chain (\d) is refused with 11 in a report: its table has ([0-9,]+) anchors", answer.err, re.MULTILINE), [("1", f"{table_of(file.at_phase(1, 0).places(1), 1)[2]:,}")]
+
+
+def phase_kinds(right):
+    """Which kinds of answer this is."""
+    if len(right) == 3:
+        return [right[1]]
+    *_, then, today, kept, others = right
+    if then is None or today is None:
+        return ["none" if then is None else "nothing need change"]
+    return [f"{'kept today' if kept else 'found'}, {'above 0' if then[0] else '0'}", *(["another chain refused" if len(other) == 2 else "another chain" for other in others] or ["alone"])]
+
+
+def any_phases(r, factor):
+    """Any schedules, chains, tasks and bounds, every third with -o. All kinds of answers must be met."""
+    kinds = collections.Counter()
+    for i, (file, c, task) in enumerate(some_phase_schedules(r, int(1200 * factor))):
+        bound = r.choice(phase_bounds(r, file, c, task))
+        case = (written_phase if i % 3 == 0 else phase_case)(r, file, c, task, bound)
+        kinds.update(phase_kinds(phase_right(file, c, task, bound)))
+        yield case
+    assert factor < 1 or len(kinds) == 12, kinds
+
+
+def lied_to(phase, *arguments, stdin):
+    """The command with a shared object that answers this phase, or none, and is else the proved one."""
+    own, answers = calls.library.load(), leaves(0, [phase or 0], [int(phase is None)])
+    other = type("Other", (), {"__getattr__": lambda _, name: getattr(own, name), "mo_smallest_phase": staticmethod(answers)})()
+    with Replaced(calls.library, "load", lambda: other):
+        return called(*arguments, stdin=stdin)
+
+
+def lying_cases(folder):
+    """A shared object that answers another phase, or none: told, with status 2, and nothing is written."""
+    out = os.path.join(folder, "out")
+    a, c = [(1, 4, 4, 0), (2, 6, 6, 0)], [(1, 5, 5, 0), (2, 5, 5, 3)]
+    for tasks, chain, task, bound, right, wrong in (
+        # Phases that do not keep the bound, that are not the first, that are not below the period, and no phase where that of today keeps it.
+        ([(3, 10, 3, 7), (9, 20, 5, 0)], [3, 9, 3], 3, 33, 5, (0, 1, 4, 6, 7, 8, 10, 15, 25, 1000000, 1000005, 2**63, None)), ([(3, 10, 3, 0), (9, 20, 5, 0)], [3, 9, 3], 3, 33, 5, (0, 4, 6, 7, 15)),
+        # Only the phase of today tells; only the period tells.
+        (a, [1, 2], 2, 18, 0, (1, 2, 4, None)), (c, [1, 2], 2, 15, 0, (1, 5, 10)),
+        # Where there is none.
+        (a, [1, 2], 2, 17, None, (0, 1, 5, 6)),
+    ):
+        data = b"".join(inputs.records(tasks, [chain], 0))
+        for phase in wrong:
+            answers = [lied_to(phase, "phase", "-", task, bound, *more, stdin=data) for more in ([], ["-o", out], ["-o", "-"])]
+            found = [(answer.status, answer.out, f"{'none' if phase is None else phase} is not the smallest phase of task {task}" in answer.err, answer.err.count("\n")) for answer in answers]
+            yield f"{phase} for {right} of {tasks}, {bound}: {answers[0].err}", (found, content(out)), ([(2, b"", True, 1)] * 3, None)
+        yield f"{right} of {tasks}, {bound}", lied_to(right, "phase", "-", task, bound, stdin=data).status, 0
+
+
+def commented_cases(folder):
+    """From a text with comments to a file with the phase: the file of the text in which only that number is another."""
+    text = "# a comment\ntask 3 period 10 duration 3 phase {} # the sampler\n\ntask 9 period 20us duration 0.005ms phase 0\nchain 3 9 3\nchain 9 # alone\ngap {}\n"
+    for gap, phase in ((0, 5), (1, 6)):
+        paths = [os.path.join(folder, f"{name}-{gap}") for name in ("today", "then", "by-hand")]
+        called("write", "-", paths[0], stdin=text.format(7, gap).encode())
+        called("write", "-", paths[2], stdin=text.format(phase, gap).encode())
+        answer = called("phase", paths[0], 3, 33, "-o", paths[1])
+        yield f"phase {phase} with gap {gap}", (answer.status, answer.err, content(paths[1])), (0, "", content(paths[2]))
+        yield f"today's phase with gap {gap} stays", called("text", paths[0]).text(), canonical([(3, 10, 3, 7), (9, 20, 5, 0)], [[3, 9, 3], [9]], gap).decode()
+        # Asked again, the phase is the one that the file has.
+        again = called("phase", paths[1], 3, 33, "-o", "-")
+        yield f"phase {phase} with gap {gap}, once more", (again.status, again.out, "nothing need change" in again.err), (0, content(paths[2]), True)
+
+
+@group
+def phases(r, factor):
+    """phases that keep a bound: worked ones, refusals, any schedules, files, and a shared object that answers wrongly"""
+    yield from worked_phases(r)
+    yield from phase_refusals(r)
+    yield from many_anchors(r)
+    yield from any_phases(r, factor)
+    with tempfile.TemporaryDirectory() as folder:
+        yield from lying_cases(folder)
+        yield from commented_cases(folder)
 
 
 def shortened(value):

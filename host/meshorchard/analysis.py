@@ -1,4 +1,5 @@
-"""What the proved calls say of a chain: its table, its figures, how often each delay occurs, the way of a press and of a leg, and how two chains are booked.
+"""What the proved calls say of a chain: its table, its figures, how often each delay occurs, the phase that keeps a bound, the way of a press and of a leg, and how
+two chains are booked.
 
 The numbers are those of the calls. Two steps are done here beside them: the read of a job is its write less the task's duration, and its number is how many periods lie
 between the phase and the read; where these are no whole periods, that is an error.
@@ -9,10 +10,10 @@ import itertools
 from array import array
 from dataclasses import dataclass
 from fractions import Fraction
-from typing import List, NamedTuple, Optional
+from typing import List, NamedTuple, Optional, Tuple
 
 from . import calls
-from .lent import Chain, Table
+from .lent import Chain, Schedule, Table
 from .measures import said
 from .refusals import Refused
 
@@ -164,6 +165,34 @@ def histogram(figures: Figures, width: int) -> List[Bar]:
     if rest or sum(bar.count for bar in bars) != figures.hyperperiod or not (bars[0].count and bars[-1].count):
         raise Disagreement(f"the counts of a width of {width} are not those of all {figures.hyperperiod} ticks of a hyperperiod, from the least delay to the greatest")
     return bars
+
+
+class AtPhase(NamedTuple):
+    """A phase of a task, and the greatest latency that a chain has with it."""
+
+    phase: int
+    greatest: int
+
+
+def at_phase(schedule: Schedule, number: int, task: int, phase: int) -> AtPhase:
+    """A chain of a schedule in which a task has this phase."""
+    return AtPhase(phase, made(calls.chain_of_schedule(schedule.with_phase(task, phase), number)).greatest)
+
+
+def smallest_phase(schedule: Schedule, number: int, task: int, bound: int) -> Tuple[AtPhase, Optional[AtPhase]]:
+    """A task's phase today, and the smallest with which a chain keeps a bound, if there is one. The tables must say the same: that phase keeps the bound, and of the
+    smaller ones neither the next nor that of today does."""
+    found, own = calls.smallest_phase(schedule, number, task, bound), schedule.task(task)
+    wrong = Disagreement(f"{'none' if found is None else found} is not the smallest phase of task {task} with which chain {number} keeps a bound of {bound}")
+    if found is not None and found >= own.period:
+        raise wrong
+    today = at_phase(schedule, number, task, own.phase)
+    then = None if found is None else at_phase(schedule, number, task, found)
+    smaller = [today] if found is None or own.phase < found else []
+    smaller += [at_phase(schedule, number, task, found - 1)] if found else []
+    if then and then.greatest > bound or any(each.greatest <= bound for each in smaller):
+        raise wrong
+    return today, then
 
 
 def jobs_between(chain: Chain, place: int, first: int, last: int, most: int) -> Optional[List[Job]]:

@@ -5,7 +5,7 @@ import argparse
 import os
 import sys
 import traceback
-from typing import List, Optional
+from typing import List, Optional, Sequence
 
 from . import analysis, calls, curve, histogram, limits, measures, page, refusals, text, words
 from .lent import Chain, Schedule
@@ -62,6 +62,30 @@ def on_chain(schedule: Schedule, number: int, ask):
         raise Unsound(words.of_chain(schedule, number, refused)) from None
 
 
+def tell(path: str, lines: Sequence[str]) -> None:
+    """Lines beside a file that is written: on standard error where that is standard output."""
+    if path == STREAM:
+        print("\n".join(lines), file=sys.stderr)
+    else:
+        say(lines)
+
+
+def write_schedule(path: str, schedule: Schedule, source: str, lines: Sequence[str] = ()) -> None:
+    """Writes the file of a schedule; then come these lines and what stands in the file now."""
+    data = limits.file_of(schedule)
+    write(path, data, source)
+    back = read(path) if path != STREAM and os.path.isfile(path) else data
+    if back != data:
+        raise Stop(f"{path} does not hold what was written to it")
+    name = shown(path, "standard output")
+    tell(path, [*lines, f"{name}: {len(back)} bytes; the instrument will read", text.canonical(calls.read_file(back)).rstrip("\n")])
+    # The file is what the schedule says; that a chain of it has no table is told here already.
+    for number in range(1, schedule.chain_count + 1):
+        said, refused = words.check_chain(schedule, number)
+        if refused:
+            print(f"note: {said[-1].strip()}", file=sys.stderr)
+
+
 # ---- The commands
 
 def do_write(asked) -> int:
@@ -72,23 +96,7 @@ def do_write(asked) -> int:
         schedule = text.read(text.decoded(given))
     except text.WrongLine as wrong:
         raise Unsound(f"{shown(asked.text)}, {wrong}") from None
-    data = limits.file_of(schedule)
-    write(asked.file, data, asked.text)
-    # What is shown is what stands in the file now.
-    back = read(asked.file) if asked.file != STREAM and os.path.isfile(asked.file) else data
-    if back != data:
-        raise Stop(f"{asked.file} does not hold what was written to it")
-    name = shown(asked.file, "standard output")
-    lines = [f"{name}: {len(back)} bytes; the instrument will read", text.canonical(calls.read_file(back)).rstrip("\n")]
-    if asked.file == STREAM:
-        print("\n".join(lines), file=sys.stderr)
-    else:
-        say(lines)
-    # The file is what the text says; that a chain of it has no table is told here already.
-    for number in range(1, schedule.chain_count + 1):
-        said, refused = words.check_chain(schedule, number)
-        if refused:
-            print(f"note: {said[-1].strip()}", file=sys.stderr)
+    write_schedule(asked.file, schedule, asked.text)
     return 0
 
 
@@ -205,6 +213,25 @@ def do_sections(asked) -> int:
     return 0
 
 
+def do_phase(asked) -> int:
+    schedule = schedule_of(asked.file)
+    chain_of(schedule, asked.file, asked.chain)
+    try:
+        today, then = analysis.smallest_phase(schedule, asked.chain, asked.task, asked.bound)
+    except Refused as refused:
+        raise Unsound(words.of_task(schedule, asked.chain, asked.task, refused)) from None
+    lines = words.smallest_phase(schedule, asked.chain, asked.task, asked.bound, today, then)
+    if asked.output is None:
+        say(lines)
+        return 0
+    if then is None:
+        tell(asked.output, lines)
+        print(f"{shown(asked.output, 'standard output')} is not written: no phase keeps the bound.", file=sys.stderr)
+        return 1
+    write_schedule(asked.output, schedule.with_phase(asked.task, then.phase), asked.file, lines)
+    return 0
+
+
 # ---- The arguments
 
 def as_ticks(word: str) -> int:
@@ -264,6 +291,11 @@ COMMANDS = (
     ("sections", do_sections, "the greatest latency of each section of a chain that is cut, as its maker has it, their sum, and that of the whole", (
         FILE, ("cuts", {"metavar": "CUTS", "type": as_cuts, "nargs": "+", "help": "the places after which the chain is cut, as 2,4"}), ONE_CHAIN,
     ), "sections examples/two-boards.schedule 2 --chain 2"),
+    ("phase", do_phase, "find the smallest phase of a task with which a chain's greatest latency is at most a bound", (
+        FILE, ("task", {"metavar": "TASK", "type": as_number, "help": "the number of a task of the chain; its period is at most 10 ms"}),
+        ("bound", {"metavar": "BOUND", "type": as_ticks, "help": "in ticks of 1 us, or with a unit, as 130ms"}), ONE_CHAIN,
+        ("-o", {"dest": "output", "metavar": "OUT", "help": "the schedule file to write, in which the task has that phase, or - for standard output"}),
+    ), "phase examples/two-boards.schedule 30 130ms --chain 2"),
 )
 
 

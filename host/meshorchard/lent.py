@@ -157,6 +157,15 @@ class Schedule:
         """The counted tasks."""
         return [Task(*self.tasks[4 * i:4 * i + 4]) for i in range(self.count)]
 
+    def task(self, number: int) -> Task:
+        """The task with a number."""
+        return next(task for task in self.task_list() if task.number == number)
+
+    def with_phase(self, number: int, phase: int) -> Schedule:
+        """The schedule in which the task with a number has this phase; all else is as it was."""
+        tasks = [task._replace(phase=phase) if task.number == number else task for task in self.task_list()]
+        return Schedule.of(tasks, self.chain_list(), self.gap)
+
     def chain_list(self) -> List[List[int]]:
         """The task numbers at the places of each counted chain."""
         return [list(self.chains[ROW * c:ROW * c + self.places[c]]) for c in range(self.chain_count)]

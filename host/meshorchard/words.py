@@ -1,10 +1,10 @@
 """What the calls say of a schedule, a chain, a press or a leg, in words for a terminal."""
 from __future__ import annotations
 
-from typing import List, Sequence, Tuple
+from typing import List, Optional, Sequence, Tuple
 
-from . import calls, diagnosis
-from .analysis import SLOTS, Bar, Disagreement, Figures, Job, first_leg, slots_table, way_of_leg, way_of_press
+from . import calls, diagnosis, limits
+from .analysis import SLOTS, AtPhase, Bar, Disagreement, Figures, Job, at_phase, first_leg, slots_table, way_of_leg, way_of_press
 from .lent import Schedule
 from .measures import counted, in_unit, percent, said, short, sign, unit_for
 from .refusals import Refused
@@ -46,6 +46,22 @@ def of_chain(schedule: Schedule, number: int, refused: Refused) -> str:
     if refused.number == 11:
         return f"chain {number} is refused with 11 in a report: its table has {refused.made.anchors:,} anchors, and a report has room for {SLOTS:,}."
     return f"chain {number} is refused with {refused.number}: {refused.words}."
+
+
+def of_task(schedule: Schedule, number: int, task: int, refused: Refused) -> str:
+    """Why the phases of a task in a chain of a sound schedule are not tried."""
+    if refused.number == 19:
+        tasks, others = sorted(set(schedule.chain_list()[number - 1])), with_task(schedule, task)
+        but = f", but in {'chain' if len(others) == 1 else 'chains'} {listed(others)}" if others else ""
+        return f"task {task} is refused with 19: it is not in chain {number}, where {limits.known(tasks)}{but}."
+    if refused.number == 20:
+        return f"task {task} is refused with 20: its period is {said(schedule.task(task).period)}, and phases are tried up to a period of 10,000 µs (10 ms)."
+    return of_chain(schedule, number, refused)
+
+
+def with_task(schedule: Schedule, task: int) -> List[int]:
+    """The numbers of the chains that a task is in."""
+    return [number for number, tasks in enumerate(schedule.chain_list(), start=1) if task in tasks]
 
 
 def of_pair(schedule: Schedule, first: int, second: int, refused: Refused) -> str:
@@ -172,6 +188,29 @@ def histogram(number: int, figures: Figures, bars: Sequence[Bar]) -> List[str]:
         *columns(rows),
         f"  together {counted(sum(bar.count for bar in bars), 'tick')}: every tick of a hyperperiod",
     ]
+
+
+def smallest_phase(schedule: Schedule, number: int, task: int, bound: int, today: AtPhase, then: Optional[AtPhase]) -> List[str]:
+    """The smallest phase of a task with which a chain keeps a bound, and what it changes."""
+    head = f"chain {number}, task {task}, bound {said(bound)}:"
+    now = f"  today, with phase {said(today.phase)}, the chain's greatest latency is {said(today.greatest)}"
+    if then is None:
+        return [f"{head} none, no phase keeps it", now]
+    lines = [f"{head} the smallest phase that keeps it is {said(then.phase)}", f"  with that phase the chain's greatest latency is {said(then.greatest)}"]
+    if then.phase == today.phase:
+        return [*lines, f"  task {task} has that phase today: nothing need change"]
+    lines.append(f"{now}, which keeps the bound too" if today.greatest <= bound else now)
+    others = [other for other in with_task(schedule, task) if other != number]
+    return lines + [f"  chain {other} has task {task} too: {moved(schedule, other, task, then.phase)}" for other in others]
+
+
+def moved(schedule: Schedule, number: int, task: int, phase: int) -> str:
+    """What another phase of a task makes of a chain."""
+    try:
+        then, today = (at_phase(schedule, number, task, each).greatest for each in (phase, schedule.task(task).phase))
+    except Refused as refused:
+        return of_chain(schedule, number, refused)
+    return f"its greatest latency becomes {said(then)}, and is {said(today)} today"
 
 
 def pair(schedule: Schedule, found: calls.Bookings, first: int, second: int, t: int) -> List[str]:

@@ -104,6 +104,8 @@ static void read_file(void) { mo_read_file(file, file_length, numbered, chains, 
 static void write_file(void) { mo_write_file(numbered, 128, 32, chains, 48, places, 4, 4, gap, text, sizeof text, &a); }
 static void chain_of_schedule(void) { mo_chain_of_schedule(numbered, 128, 32, chains, 48, places, 4, 4, gap, 4, flat, &b); }
 static void bookings(void) { mo_bookings(numbered, 128, 32, chains, 48, places, 4, 4, gap, 1, 4, 999999999999u, both); }
+/* A bound that every partition keeps at phase 0 of the task, so that the walk goes all the way round. */
+static void smallest_phase(void) { both[0] = mo_smallest_phase(numbered, 128, 32, chains, 48, places, 4, 4, gap, 4, 65015, 52000000, &a, &b); }
 static void report(void) { a = mo_report(file, file_length, text, sizeof text); }
 
 /* A call's depth below that of an empty function is at most what the header says, and not much less. */
@@ -156,6 +158,8 @@ int main(void)
     expect("places of the chain", b, 12);
     held("mo_bookings", bookings, MO_STACK_BOOKINGS);
     expect("bookings, and not a refusal", both[0] > 999999999999u, 1);
+    held("mo_smallest_phase", smallest_phase, MO_STACK_SMALLEST_PHASE);
+    expect("a phase, and neither none nor a refusal", both[0] == 0 && a == 0 && b == 0, 1);
     held("mo_report", report, MO_STACK_REPORT);
     expect("digits of the mean's area", mean_digits(), 16);
     return counted();
