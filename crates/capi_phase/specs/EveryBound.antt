@@ -1,11 +1,10 @@
 -- mo_smallest_phase: what its numbers say, for every schedule and all numbers. With code 0 and none 0 the phase is the smallest that keeps the bound (`found-for-c`), with none 1 there is no such phase (`none-for-c`),
 -- and each of the two is answered wherever it is so (`smallest-for-c`, `no-phase-for-c`). What the phase means for the presses is said in phase/specs/Smallest.
-use Prim.Native.Nat.{ℕ, _+_, _*_, _≤_}
+use Prim.Native.Nat.{ℕ}
 use native.Mathlib.Omega.{arith}
 use mathlib.Core.Path.{_≡_, refl, sym, ap, _∙_}
 use mathlib.Core.List.{List, [], _∷_}
 use lib.ListN.{getD}
-use Rattle.refusal.specs.Refusals.{codeOf}
 use Rattle.schedule.specs.declared.Schedule.{Schedule}
 use Rattle.phase.specs.declared.Phase.{Phase}
 use Rattle.phase.specs.declared.Phase.the-variants.{Of, Nothing, Refused}

@@ -1,13 +1,12 @@
 -- A phase written into the task's own entry of the lists gives the moved schedule (`written-same`). So with any permitted phase written there the schedule passes every check that it passed (`same-choices`, `same-verdicts`); with the one
 -- that mo_smallest_phase gives no press by the chain waits longer than the bound (`kept-for-c`), with every smaller one some press does (`broken-for-c`), and so with every one where there is none (`none-at-all-for-c`).
-use Prim.Native.Nat.{ℕ, zero, suc, _+_, _-_, _*_, _≤_, _<_}
+use Prim.Native.Nat.{ℕ, zero, suc, _+_, _*_, _≤_, _<_}
 use native.Mathlib.Omega.{arith}
 use native.Mathlib.Decide.{decLt, ℕ-discrete}
 use mathlib.Core.Path.{_≡_, refl, sym, ap, _∙_, subst}
-use mathlib.Core.Bool.{true, false, cond}
+use mathlib.Core.Bool.{false}
 use mathlib.Core.List.{List, [], _∷_, map}
-use lib.Dec.{eqb}
-use lib.ListN.{length, getD, set, take, length-set, length-map}
+use lib.ListN.{length, getD, set, length-set, length-map}
 use lib.Seq.{ext-getD, getD-take, length-take-le, getD-set-same, getD-set-other}
 use borrow.Author.Tests.{eq-eqb, ne-eqb, le-leb, leb-true}
 use Rattle.ranges.specs.Entries.{entries-at, entries-length}
@@ -26,10 +25,9 @@ use Rattle.schedule_checks.specs.SameSchedule.{SameSchedule, chain-same, choice
 use Rattle.timing.specs.WarmUp.{warmTick}
 use Rattle.timing.specs.Delay.{delayAt}
 use Rattle.latency.specs.Latency.{greatestLatency}
-use Rattle.phase.specs.Phases.{phased, withPhase, moved, keepsBound, periodOf}
-use Rattle.phase.specs.Search.{SmallestPhase}
+use Rattle.phase.specs.Phases.{withPhase, moved, keepsBound}
 use Rattle.phase.specs.Smallest.{LatePress, Passed, kept, broken, none-exactly, none-at-all}
-use Rattle.phase.specs.MovedSchedule.{moved-choices, moved-verdict}
+use Rattle.phase.specs.MovedSchedule.{moved-choices, moved-verdict, map-at}
 use Rattle.capi_schedule.specs.FlatSchedule.{numberedAt, tasksFrom, countFrom, scheduleFrom}
 use Rattle.capi_schedule.specs.GivenBack.{from-arrays, count-fits, count-is}
 use Rattle.capi_phase.specs.Calls.{GivesPhase}
@@ -49,11 +47,6 @@ rises p before [] pos h i j a b = absurd (omega arith)
 rises p before (t ∷ ts) pos h i zero a b = absurd (omega arith)
 rises p before (t ∷ ts) pos h zero (suc j) a b = above (p + 1) (t .number) ts (omega arith) (fault-cons p before t ts pos h .1) j (omega arith)
 rises p before (t ∷ ts) pos h (suc i) (suc j) a b = rises (p + 1) (t .number) ts (omega arith) (fault-cons p before t ts pos h .1) i j (omega arith) (omega arith)
-
-map-there : {A B : Type 0} (f : A → B) (l : List A) (i : ℕ) (d : A) (e : B) → i < length l → getD (map f l) i e ≡ f (getD l i d)
-map-there f [] i d e h = absurd (omega arith)
-map-there f (x ∷ l) zero d e h = refl
-map-there f (x ∷ l) (suc i) d e h = map-there f l i d e (omega arith)
 
 -- The chain's greatest latency is at most the bound, and no press from its warm-up tick on waits longer.
 pub record KeptForC (w : Schedule) (n bound : ℕ) : Type 0 where
@@ -132,7 +125,7 @@ module _ (tasks : List ℕ) (count : ℕ) (chains places : List ℕ) (total gap 
         let h : j < count = omega arith in
         getD-take (written .count) (tasksFrom entries) j zeroNumbered (omega (arith, count-same, count-given)) ∙ entries-at (numberedAt entries) zeroNumbered 32 j (omega (arith, count-given)) ∙ each j h
         ∙ sym (getD-take (s .count) (map (withPhase number F) (tasksFrom tasks)) j zeroNumbered (omega (arith, count-given))
-        ∙ map-there (withPhase number F) (tasksFrom tasks) j zeroNumbered zeroNumbered (omega (arith, count-given, entries-length (numberedAt tasks) 0 32))
+        ∙ map-at (withPhase number F) (tasksFrom tasks) j zeroNumbered zeroNumbered (omega (arith, count-given, entries-length (numberedAt tasks) 0 32))
         ∙ ap (withPhase number F) (entries-at (numberedAt tasks) zeroNumbered 32 j (omega (arith, count-given)))))
 
     pub written-same : SameSchedule written (moved s number F)

@@ -1,5 +1,5 @@
 -- Bezout's law: the greatest common divisor of two numbers is a multiple of the one less a multiple of the other, either way round (`divisor-left`, `divisor-right`).
-use Prim.Native.Nat.{ℕ, zero, suc, _+_, _-_, _*_, _/_, _%_, _≤_}
+use Prim.Native.Nat.{ℕ, zero, suc, _+_, _*_, _/_, _%_, _≤_}
 use native.Mathlib.Omega.{arith}
 use native.Mathlib.Nat.{mod-lt, div-add-mod', add-mul, mul-assoc}
 use mathlib.Core.Path.{_≡_, refl, ap}

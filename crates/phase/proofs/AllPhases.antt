@@ -1,12 +1,11 @@
 -- The phases below a divisor of the period stand for all, and the exits of `search_period` and `judged`.
-use Prim.Native.Nat.{ℕ, suc, _+_, _-_, _*_, _/_, _≤_, _<_}
+use Prim.Native.Nat.{ℕ, suc, _+_, _*_, _/_, _≤_, _<_}
 use native.Mathlib.Omega.{arith}
-use native.Mathlib.Decide.{decLt}
 use native.Mathlib.Nat.{le-of-dvd, div-mul-le-self, mul-le-mul-right, mul-comm}
 use mathlib.Core.Path.{_≡_, refl, sym, ap, _∙_}
 use mathlib.Core.Bool.{Bool, true, false, cond}
 use mathlib.Core.List.{List, [], _∷_}
-use lib.Dec.{leb, ltb, eqb}
+use lib.Dec.{leb, eqb}
 use lib.ListN.{length, getD, take, length-map}
 use lib.Seq.{take-length}
 use borrow.Author.Tests.{le-leb, lt-leb, lt-ltb, le-ltb, eqb-true}
@@ -26,13 +25,10 @@ use Rattle.chain.specs.Checks.{verdictIn}
 use Rattle.chain.proofs.CheckLaws.{accepted-in}
 use Rattle.schedule.specs.Schedules.{positionOf, known}
 use Rattle.schedule.specs.Numbers.{known-position, unknown-position}
-use Rattle.latency.specs.Latency.{greatestLatency}
-use Rattle.latency.specs.LongestPlace.{longestPeriod, longestPlace, longest-place, longest-is}
-use Rattle.phase.specs.declared.Phase.{Phase}
+use Rattle.latency.specs.LongestPlace.{longestPeriod, longest-place, longest-is}
 use Rattle.phase.specs.declared.Phase.the-variants.{Of, Nothing, Refused}
 use Rattle.phase.specs.declared.Tried.{Tried}
-use Rattle.phase.specs.Phases.{foundAt, smallestOf}
-use Rattle.phase.specs.MovedTasks.{movedAt}
+use Rattle.phase.specs.Phases.{foundAt}
 use Rattle.phase.specs.PhasesRepeat.{Periods, phases-repeat}
 use Rattle.phase.specs.Search.{found-early, none-early}
 use Rattle.phase.specs.InList.{keepsIn, periodIn, judgedIn, Filled, AcceptedList, OthersDivide, Finds}

@@ -4,11 +4,10 @@ use native.Mathlib.Omega.{arith}
 use native.Mathlib.Decide.{decLe}
 use native.Mathlib.Numerals.{add-one}
 use native.Mathlib.Nat.{add-mul, div-mul-le-self, div-le-self, lt-div-mul-add, mul-le-mul-right, mul-le-mul-left}
-use mathlib.Core.Path.{_≡_, refl, sym, ap, _∙_, subst}
+use mathlib.Core.Path.{_≡_, sym, ap, _∙_}
 use mathlib.Core.Bool.{Bool, true, false}
 use mathlib.Core.List.{List}
-use lib.Dec.{leb}
-use lib.ListN.{length, getD, length-map}
+use lib.ListN.{length, length-map}
 use mir.Syntax.{w64}
 use mir.Val.{Fits}
 use borrow.Author.Tests.{le-leb, lt-leb}
@@ -16,9 +15,9 @@ use Rattle.ranges.specs.Least.{leastFrom}
 use Rattle.ranges.specs.LeastLaws.{least-here, least-on}
 use Rattle.task.specs.declared.Task.{Task}
 use Rattle.task.specs.declared.Place.{Place}
-use Rattle.task.specs.Jobs.{placeOf, readOf, writeOf}
+use Rattle.task.specs.Jobs.{placeOf, writeOf}
 use Rattle.task.specs.LinkLaws.{read-mono}
-use Rattle.chain.specs.Chains.{placed, at, zeroTask}
+use Rattle.chain.specs.Chains.{placed, at}
 use Rattle.chain.specs.Checks.{Sound}
 use Rattle.chain.specs.Hyperperiod.{hyperOf}
 use Rattle.chain.specs.Multiples.{some-jobs}
@@ -26,12 +25,10 @@ use Rattle.chain.specs.Flat.{givenIn}
 use Rattle.timing.specs.WarmUp.{warmAt}
 use Rattle.timing.specs.WarmRanges.{warm-range}
 use Rattle.stepping.specs.Standing.{Reciprocals}
-use Rattle.outset.specs.Range.{Range}
 use Rattle.latency.specs.declared.Greatest.{Greatest}
 use Rattle.latency.specs.Latency.{greatestLatency}
 use Rattle.latency.specs.LongestPlace.{longestPeriod, longestPlace, longest-place, longest-is}
 use Rattle.latency.specs.Walk.{RangeFrom, MetFrom}
-use Rattle.phase.specs.declared.Tried.{Tried}
 use Rattle.phase.specs.MovedTasks.{movedAt, moved-length, moved-again, moved-hyper, moved-count, period-same, moved-list-sound}
 use Rattle.phase.specs.InList.{keepsIn, AcceptedList, Begun, Finds}
 

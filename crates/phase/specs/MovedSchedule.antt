@@ -3,31 +3,31 @@
 use Prim.Native.Nat.{ℕ, zero, suc, _+_, _≤_, _<_}
 use native.Mathlib.Omega.{arith}
 use native.Mathlib.Decide.{ℕ-discrete}
-use mathlib.Core.Path.{_≡_, refl, sym, ap, _∙_, subst}
-use mathlib.Core.Bool.{Bool, true, false, cond, _&&_}
+use mathlib.Core.Path.{_≡_, refl, sym, ap, _∙_}
+use mathlib.Core.Bool.{Bool, true, false, cond}
 use mathlib.Core.List.{List, [], _∷_, map}
-use lib.Dec.{ltb, leb, eqb}
-use lib.ListN.{length, getD, take, length-map}
+use lib.Dec.{leb, eqb}
+use lib.ListN.{length, getD, length-map}
 use borrow.Author.Tests.{eq-eqb, ne-eqb, le-leb, lt-ltb}
 use Rattle.refusal.specs.Refusals.{refusal, none}
 use Rattle.ranges.specs.LeastLaws.{least-same}
-use Rattle.euclid.specs.Divisor.{lcmOf}
 use Rattle.task.specs.declared.Task.{Task}
-use Rattle.task.specs.Jobs.{withinLimits, Within}
+use Rattle.task.specs.Jobs.{Within}
 use Rattle.task.specs.LinkLaws.{limits-hold}
 use Rattle.chain.specs.declared.Verdict.{Verdict}
 use Rattle.chain.specs.declared.Verdict.the-variants as verdict
 use Rattle.chain.specs.Chains.{givenOf, placed, tasksOf, zeroTask}
 use Rattle.chain.specs.Checks.{hyperVerdict, verdictFor, verdictOf, verdictIn}
-use Rattle.chain.specs.Hyperperiod.{hyperFrom, hyperOf}
+use Rattle.chain.specs.Hyperperiod.{hyperOf}
 use Rattle.schedule.specs.declared.NumberedTask.{NumberedTask}
 use Rattle.schedule.specs.declared.Route.{Route}
 use Rattle.schedule.specs.declared.Schedule.{Schedule}
 use Rattle.schedule.specs.Schedules.{numberOf, tasksIn, routesIn, taskRule, positionOf, known, taskNumbered, routeNumbered, chainAt}
 use Rattle.schedule.specs.Arrays.{Arrays}
-use Rattle.schedule.specs.Rule.{Rule, rule}
-use Rattle.schedule.specs.ChainTasks.{route-there, chain-tasks}
-use Rattle.schedule_checks.specs.Checks.{firstFault, firstUnknown, choiceOf, afterChoice}
+use Rattle.schedule.specs.Rule.{rule}
+use Rattle.schedule.specs.ChainTasks.{chain-tasks}
+use Rattle.schedule.proofs.PlaceLaws.{map-take}
+use Rattle.schedule_checks.specs.Checks.{firstFault, firstUnknown, choiceOf}
 use Rattle.schedule_checks.specs.SoundSchedule.{SoundSchedule, fault-cons, no-refusal}
 use Rattle.schedule_checks.specs.SoundChain.{sound-placed, sound-length, sound-known, sound-chain, sound-route}
 use Rattle.schedule_checks.specs.ChosenChain.{choice-sound, choice-there, choice-answers}
@@ -35,14 +35,8 @@ use Rattle.latency.specs.Latency.{greatestLatency}
 use Rattle.phase.specs.declared.Phase.{Phase}
 use Rattle.phase.specs.declared.Phase.the-variants.{Refused}
 use Rattle.phase.specs.Phases.{phased, withPhase, moved, keepsBound, foundAt, smallestOf, periodOf, placesAt, phaseAfter, phaseFrom}
-use Rattle.phase.specs.MovedTasks.{movedAt}
+use Rattle.phase.specs.MovedTasks.{movedAt, moved-hyper}
 use Rattle.phase.specs.InList.{keepsIn, periodIn, judgedIn, afterVerdict, phaseIn, Filled}
-
--- the front of a list that is taken over through f
-take-map : {A B : Type 0} (f : A → B) (n : ℕ) (l : List A) → take n (map f l) ≡ map f (take n l)
-take-map f zero l = refl
-take-map f (suc n) [] = refl
-take-map f (suc n) (x ∷ l) = ap (λ (r : List _). f x ∷ r) (take-map f n l)
 
 -- ---- a list of tasks, one of which moves
 
@@ -139,12 +133,6 @@ moved-twice s number E F =
     schedule : List NumberedTask → Schedule
     schedule ts = record { tasks = ts; routes = s .routes; count = s .count; chains = s .chains; gap = s .gap }
 
--- 7 looks at the periods alone
-hyper-by : (g : ℕ) (f f′ : ℕ → Task) → ((m : ℕ) → f m .period ≡ f′ m .period) → (places : List ℕ) (h : ℕ) → hyperFrom h (placed g (map f places)) ≡ hyperFrom h (placed g (map f′ places))
-unfolding hyperFrom
-hyper-by g f f′ e [] h = refl
-hyper-by g f f′ e (m ∷ places) h = ap (λ (T : ℕ). hyperFrom (lcmOf h T) (placed g (map f places))) (e m) ∙ hyper-by g f f′ e places (lcmOf h (f′ m .period))
-
 -- a number of a chain whose numbers are all known is known
 place-known : (numbers : List ℕ) (places : List ℕ) (p n : ℕ) → 1 ≤ p → firstUnknown p numbers places ≡ 0 → known places n ≡ true → known numbers n ≡ true
 unfolding firstUnknown known
@@ -163,7 +151,7 @@ place-known numbers (m ∷ places) p n pos h k = go (known numbers m) refl h (pl
 
 module _ (s : Schedule) (number F : ℕ) where
   pub tasks-moved : tasksIn (moved s number F) ≡ map (withPhase number F) (tasksIn s)
-  tasks-moved = take-map (withPhase number F) (s .count) (s .tasks)
+  tasks-moved = sym (map-take (withPhase number F) (s .count) (s .tasks))
 
   pub moved-arrays : Arrays s → Arrays (moved s number F)
   moved-arrays a = record { tasks = length-map (s .tasks) (withPhase number F) ∙ a .tasks; routes = a .routes; places = a .places }
@@ -217,9 +205,7 @@ module _ (s : Schedule) (number F : ℕ) where
       unfolding hyperVerdict
       moved-verdict f =
           let e : hyperOf (tasksOf (chainAt (moved s number F) n)) ≡ hyperOf (tasksOf (chainAt s n))
-          = ap (λ (l : List Task). hyperOf (placed (s .gap) l)) given-moved
-          ∙ hyper-by (s .gap) _ _ (period-stays number F (tasksIn s)) (placesAt s n) 1
-          ∙ ap (λ (l : List Task). hyperOf (placed (s .gap) l)) (sym given) in
+          = ap hyperOf moved-chain ∙ moved-hyper number (s .gap) F (placesAt s n) (givenOf (chainAt s n)) in
           sound-chain (moved s number F) (moved-arrays a) (moved-sound f k) n low high
           ∙ ap (λ (h : ℕ). cond (leb h 60000000) (verdict.Accepted h) (verdict.Refused (refusal 7 0))) e
           ∙ sym (sound-chain s a k n low high)
@@ -235,10 +221,11 @@ position-task f (m ∷ places) n h = elim (ℕ-discrete m n) [
   | no e ↦ rw (ne-eqb m n e) (position-task f places n (rw (ne-eqb m n e) at h))
 ]
 
-pub map-at : (f : ℕ → Task) (places : List ℕ) (i : ℕ) → i < length places → getD (map f places) i zeroTask ≡ f (getD places i 0)
-map-at f [] i h = absurd (omega arith)
-map-at f (m ∷ places) zero h = refl
-map-at f (m ∷ places) (suc i) h = map-at f places i (omega arith)
+-- an entry of a list taken over through f, whatever stands for the entries past the end
+pub map-at : {A B : Type 0} (f : A → B) (l : List A) (i : ℕ) (d : A) (e : B) → i < length l → getD (map f l) i e ≡ f (getD l i d)
+map-at f [] i d e h = absurd (omega arith)
+map-at f (x ∷ l) zero d e h = refl
+map-at f (x ∷ l) (suc i) d e h = map-at f l i d e (omega arith)
 
 module _ (s : Schedule) (a : Arrays s) (n : ℕ) (chosen : choiceOf s n .number ≡ 0) where
   abbrev k : SoundSchedule s
@@ -268,7 +255,7 @@ module _ (s : Schedule) (a : Arrays s) (n : ℕ) (chosen : choiceOf s n .number 
     same = λ i j g h e.
         let x : i < length places = omega (arith, length-map places f) in
         let y : j < length places = omega (arith, length-map places f) in
-        map-at f places i x ∙ ap f e ∙ sym (map-at f places j y);
+        map-at f places i 0 zeroTask x ∙ ap f e ∙ sym (map-at f places j 0 zeroTask y);
   }
 
   pub places-few : (1 ≤ chainAt s n .places) × (chainAt s n .places ≤ 12)

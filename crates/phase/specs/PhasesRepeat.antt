@@ -1,6 +1,6 @@
 -- Which phases need not be tried. A phase counts only beside the other tasks of the chain: later by the greatest common divisor of the task's period and a multiple of all other periods, it is the
 -- same chain at another time (`phases-repeat`).
-use Prim.Native.Nat.{ℕ, _+_, _-_, _*_, _/_, _≤_, _<_, _∣_}
+use Prim.Native.Nat.{ℕ, _+_, _*_, _/_, _≤_, _<_, _∣_}
 use native.Mathlib.Omega.{arith}
 use native.Mathlib.Nat.{div-mul-cancel, dvd-mul-left-of-dvd}
 use mathlib.Core.Path.{_≡_, refl, ap}

@@ -3,13 +3,11 @@ use Prim.Native.Nat.{ℕ, zero, suc, _+_, _*_, _/_, _%_, _≤_, _<_}
 use native.Mathlib.Omega.{arith}
 use native.Mathlib.Decide.{decLt}
 use native.Mathlib.Nat.{mod-lt, div-add-mod'}
-use mathlib.Core.Path.{_≡_, refl, sym, ap, _∙_}
-use mathlib.Core.Bool.{Bool, true, false, cond}
-use lib.Dec.{ltb}
+use mathlib.Core.Path.{_≡_, sym, ap, _∙_}
+use mathlib.Core.Bool.{Bool, true, false}
 use borrow.Author.Tests.{lt-ltb, le-ltb}
 use Rattle.ranges.specs.Least.{leastFrom}
-use Rattle.ranges.specs.LeastLaws.{FirstOf, found-first, none-found, first-least, least-end}
-use Rattle.phase.specs.declared.Phase.{Phase}
+use Rattle.ranges.specs.LeastLaws.{found-first, none-found, first-least, least-end}
 use Rattle.phase.specs.declared.Phase.the-variants.{Of, Nothing}
 use Rattle.phase.specs.Phases.{foundAt, smallestOf}
 
@@ -64,18 +62,20 @@ module _ (test : ℕ → Bool) (n : ℕ) where
 
 -- ---- a test that repeats after d phases
 
-module _ (test : ℕ → Bool) (n d : ℕ) (some : 1 ≤ d) (few : d ≤ n) (repeats : (F : ℕ) → F + d < n → test (F + d) ≡ test F) where
-  climb : NoPhase test d → (q r : ℕ) → r < d → r + q * d < n → test (r + q * d) ≡ false
-  climb none zero r h g = let e : r + 0 * d ≡ r = omega arith in rw e (none r h)
-  climb none (suc q) r h g =
+module _ (test : ℕ → Bool) (n d : ℕ) (repeats : (F : ℕ) → F + d < n → test (F + d) ≡ test F) where
+  climb : (q r : ℕ) → r + q * d < n → test (r + q * d) ≡ test r
+  climb zero r h = let e : r + 0 * d ≡ r = omega arith in ap test e
+  climb (suc q) r h =
       let e : r + suc q * d ≡ r + q * d + d = omega arith in
-      rw e (repeats (r + q * d) (omega arith) ∙ climb none q r h (omega arith))
+      ap test e ∙ repeats (r + q * d) (omega arith) ∙ climb q r (omega arith)
 
-  all-none : NoPhase test d → NoPhase test n
-  all-none none F h =
+  -- Every phase is as good as its remainder by d:
+  pub test-remainder : (F : ℕ) → F < n → test F ≡ test (F % d)
+  test-remainder F h =
       let e : F ≡ F % d + F / d * d = omega (arith, div-add-mod' F d) in
-      ap test e ∙ climb none (F / d) (F % d) (mod-lt F some) (omega arith)
+      ap test e ∙ climb (F / d) (F % d) (omega arith)
 
+module _ (test : ℕ → Bool) (n d : ℕ) (some : 1 ≤ d) (few : d ≤ n) (repeats : (F : ℕ) → F + d < n → test (F + d) ≡ test F) where
   -- what is found among the first d is the smallest of all,
   pub found-early : leastFrom test 0 d < d → leastFrom test 0 d ≡ leastFrom test 0 n
   found-early h =
@@ -85,5 +85,5 @@ module _ (test : ℕ → Bool) (n d : ℕ) (some : 1 ≤ d) (few : d ≤ n) (rep
   -- and where none of them passes, none does.
   pub none-early : d ≤ leastFrom test 0 d → n ≡ leastFrom test 0 n
   none-early h =
-      let e : leastFrom test 0 n ≡ 0 + n = least-end test n 0 (λ F u v. all-none (no-phase test d h) F (omega arith)) in
+      let e : leastFrom test 0 n ≡ 0 + n = least-end test n 0 (λ F u v. test-remainder test n d repeats F (omega arith) ∙ no-phase test d h (F % d) (mod-lt F some)) in
       omega arith

@@ -1,10 +1,10 @@
 -- Order 9 in the customer's words, of what the call answers: a phase is answered exactly where it is the smallest from 0 to period − 1 that keeps the bound (`smallest-phase`), `none` exactly where there is
 -- none (`none-exactly`). With the phase found no delay is above the bound, and with each smaller one there is such a delay (`kept`, `broken`); every completed table has the greatest latency that was compared (`table-keeps`). The phase of today does not matter (`phase-today`).
 -- Phases from the period on add nothing: each is as good as its remainder (`phase-remainder`), so `none` is said of every permitted phase (`none-at-all`).
-use Prim.Native.Nat.{ℕ, zero, suc, _+_, _*_, _/_, _%_, _≤_, _<_, _∣_}
+use Prim.Native.Nat.{ℕ, _+_, _%_, _≤_, _<_, _∣_}
 use native.Mathlib.Omega.{arith}
 use native.Mathlib.Decide.{decLt}
-use native.Mathlib.Nat.{mod-lt, div-add-mod', dvd-antisymm, dvd-refl}
+use native.Mathlib.Nat.{mod-lt, dvd-antisymm, dvd-refl}
 use mathlib.Core.Path.{_≡_, refl, sym, ap, _∙_, subst}
 use mathlib.Core.Logic.{_↔_}
 use mathlib.Core.Bool.{Bool, true, false, cond, true≢false}
@@ -48,7 +48,7 @@ use Rattle.latency.specs.GreatestDelay.{greatest-latency-is, table-greatest}
 use Rattle.phase.specs.declared.Phase.{Phase}
 use Rattle.phase.specs.declared.Phase.the-variants.{Of, Nothing, Refused}
 use Rattle.phase.specs.Phases.{moved, keepsBound, foundAt, smallestOf, periodOf, placesAt, phaseAfter, phaseFrom}
-use Rattle.phase.specs.Search.{SmallestPhase, NoPhase, smallest-found, none-there, found-smallest, none-smallest}
+use Rattle.phase.specs.Search.{SmallestPhase, NoPhase, smallest-found, none-there, found-smallest, none-smallest, test-remainder}
 use Rattle.phase.specs.PhasesRepeat.{Periods, phases-repeat}
 use Rattle.phase.specs.MovedTasks.{movedAt}
 use Rattle.phase.specs.MovedSchedule.{tasks-moved, period-stays, moved-twice, moved-choice, moved-verdict, moved-arrays, keeps-same, places-filled, tasks-are, map-at, position-task}
@@ -187,7 +187,7 @@ module _ (s : Schedule) (a : Arrays s) (n number bound : ℕ) (k : Passed s n nu
   long = places-filled s a n (k .chosen) .long
 
   task-is : (i : ℕ) → i < length l → getD l i zeroTask ≡ taskNumbered (tasksIn s) (getD places i 0)
-  task-is i h = ap (λ (x : List Task). getD x i zeroTask) (tasks-are s a n (k .chosen)) ∙ map-at (taskNumbered (tasksIn s)) places i (omega (arith, long))
+  task-is i h = ap (λ (x : List Task). getD x i zeroTask) (tasks-are s a n (k .chosen)) ∙ map-at (taskNumbered (tasksIn s)) places i 0 zeroTask (omega (arith, long))
 
   -- the period is one of the chain's
   own : getD l (positionOf number places) zeroTask .period ≡ T
@@ -226,17 +226,9 @@ module _ (s : Schedule) (a : Arrays s) (n number bound : ℕ) (k : Passed s n nu
       ∙ ap (λ (x : ℕ). leb x bound) (phases-repeat number T H (s .gap) places l long periods E (omega (arith, divisor)) sound)
       ∙ keeps-same s a n (k .chosen) number bound E
 
-  climb : (q r : ℕ) → r + q * T ≤ 1000000 → keepsBound s n number bound (r + q * T) ≡ keepsBound s n number bound r
-  climb zero r h = let e : r + 0 * T ≡ r = omega arith in ap (keepsBound s n number bound) e
-  climb (suc q) r h =
-      let e : r + suc q * T ≡ r + q * T + T = omega arith in
-      ap (keepsBound s n number bound) e ∙ later (r + q * T) (omega arith) ∙ climb q r (omega arith)
-
   -- Every permitted phase is as good as its remainder by the period.
   pub phase-remainder : (F : ℕ) → F ≤ 1000000 → keepsBound s n number bound F ≡ keepsBound s n number bound (F % T)
-  phase-remainder F h =
-      let e : F ≡ F % T + F / T * T = omega (arith, div-add-mod' F T) in
-      ap (keepsBound s n number bound) e ∙ climb (F / T) (F % T) (omega arith)
+  phase-remainder F h = test-remainder (keepsBound s n number bound) 1000001 T (λ E g. later E (omega arith)) F (omega arith)
 
 -- So where `none` is answered, no permitted phase keeps the bound.
 pub none-at-all : (s : Schedule) → Arrays s → (n number bound : ℕ) → phaseFrom s n number bound ≡ Nothing → (F : ℕ) → F ≤ 1000000 → keepsBound s n number bound F ≡ false
