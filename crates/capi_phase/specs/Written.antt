@@ -17,6 +17,7 @@ use Rattle.schedule.specs.declared.NumberedTask.{NumberedTask}
 use Rattle.schedule.specs.declared.Schedule.{Schedule}
 use Rattle.schedule.specs.Schedules.{tasksIn, zeroNumbered, chainAt}
 use Rattle.schedule.specs.Arrays.{Arrays}
+use Rattle.schedule.specs.Padding.{map-at}
 use Rattle.schedule.specs.Rule.{rule}
 use Rattle.schedule_checks.specs.Checks.{firstFault, choiceOf}
 use Rattle.schedule_checks.specs.SoundSchedule.{SoundSchedule, fault-cons}
@@ -27,7 +28,7 @@ use Rattle.timing.specs.Delay.{delayAt}
 use Rattle.latency.specs.Latency.{greatestLatency}
 use Rattle.phase.specs.Phases.{withPhase, moved, keepsBound}
 use Rattle.phase.specs.Smallest.{LatePress, Passed, kept, broken, none-exactly, none-at-all}
-use Rattle.phase.specs.MovedSchedule.{moved-choices, moved-verdict, map-at}
+use Rattle.phase.specs.MovedSchedule.{moved-choices, moved-verdict}
 use Rattle.capi_schedule.specs.FlatSchedule.{numberedAt, tasksFrom, countFrom, scheduleFrom}
 use Rattle.capi_schedule.specs.GivenBack.{from-arrays, count-fits, count-is}
 use Rattle.capi_phase.specs.Calls.{GivesPhase}

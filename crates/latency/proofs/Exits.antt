@@ -1,5 +1,5 @@
 -- What the walk over the whole range of a chain answers, from the warm-up job on or round from any job.
-use Prim.Native.Nat.{ℕ, _/_}
+use Prim.Native.Nat.{ℕ, _-_, _/_, _≤_}
 use native.Mathlib.Omega.{arith}
 use native.Mathlib.Decide.{decLe}
 use mathlib.Core.Path.{_≡_, sym, ap, _∙_}
@@ -7,12 +7,15 @@ use mathlib.Core.List.{List}
 use lib.ListN.{length}
 use Rattle.task.specs.declared.Place.{Place}
 use Rattle.chain.specs.Chains.{at}
+use Rattle.chain.specs.Checks.{Sound}
+use Rattle.chain.specs.Hyperperiod.{hyperOf, UpToLimit}
 use Rattle.ranges.specs.Largest.{largest}
 use Rattle.timing.specs.WarmUp.{warmAt}
 use Rattle.partition.specs.Selections.{range-length}
 use Rattle.outset.specs.Range.{Range, whole-range}
 use Rattle.latency.specs.declared.Greatest.{Greatest}
 use Rattle.latency.specs.Latency.{greatestLatency, latencyOf, AcceptedAt, greatestAt}
+use Rattle.latency.specs.LongestPlace.{longestPlace, longest-place}
 use Rattle.latency.specs.GreatestDelay.{greatest-fits}
 use Rattle.latency.specs.AnyCut.{any-cut}
 use Rattle.latency.specs.AnyRange.{any-range}
@@ -57,3 +60,10 @@ met-from l places p m n bound r k met =
       counted = met .counted;
       before = met .before;
     }
+
+-- what the walk at the place of the longest period needs
+pub walk-given : (l : List Place) → Sound l → hyperOf l ≤ 60000000 → (h : ℕ) → UpToLimit (hyperOf l) h → (p : ℕ) → p ≡ longestPlace l → (1 ≤ p) × (AcceptedAt l (p - 1) h)
+walk-given l ok small h up p e =
+    let q = longest-place l (ok .some) in
+    let few : h ≤ 60000000 = elim (decLe h 60000000) [ yes y ↦ y | no y ↦ absurd (omega (arith, up .above (omega arith), small)) ] in
+    (omega (arith, q .some), record { sound = ok; hyper = up .within few; small = few; inside = omega (arith, q .some, q .inside) })

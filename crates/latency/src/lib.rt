@@ -8,11 +8,13 @@ use task::Tick;
 ghost use mathlib.Core.Path.{_≡_};
 ghost use lib.ListN.{length};
 ghost use Prim.Native.Nat.{_-_, _≤_, _<_, max};
+ghost use Rattle.chain.specs.Checks.{Sound};
+ghost use Rattle.chain.specs.Hyperperiod.{hyperOf};
 ghost use Rattle.chain.specs.Flat.{tasksIn};
 ghost use Rattle.stepping.specs.Standing.{Reciprocals};
 ghost use Rattle.outset.specs.Range.{Range};
 ghost use Rattle.latency.specs.LongestPlace.{longestPlace};
-ghost use Rattle.latency.specs.Latency.{AcceptedAt, greatestAt};
+ghost use Rattle.latency.specs.Latency.{AcceptedAt, greatestLatency, greatestAt};
 ghost use Rattle.latency.specs.Walk.{Begins, Met, MetAll, RangeFrom, MetFrom};
 
 // The greatest latency, and the number of partitions that were walked for it.
@@ -176,4 +178,15 @@ pub fn greatest_at(tasks: &[u64], gap: u64, p: usize, h: u64) -> Greatest
     ensures { λ r. ⌜ r ≡ greatestAt (tasksIn gap (now (tasks .entry))) p h ⌝ }
 {
     walk_range(tasks, gap, p, h, 60011000)
+}
+
+// The greatest latency of a list that the checks accept, walked at the place of its longest period.
+pub fn greatest_of(tasks: &[u64], gap: u64) -> u64
+    requires { ⌜ (Sound (tasksIn gap (now tasks))) × (hyperOf (tasksIn gap (now tasks)) ≤ 60000000) ⌝ }
+    ensures { λ r. ⌜ r ≡ greatestLatency (tasksIn gap (now (tasks .entry))) ⌝ }
+{
+    let h = chain::hyperperiod_on(tasks, gap);
+    let p = longest_place(tasks, gap);
+    let found = greatest_at(tasks, gap, p - 1, h);
+    found.latency
 }

@@ -24,6 +24,7 @@ use Rattle.schedule.specs.declared.Route.{Route}
 use Rattle.schedule.specs.declared.Schedule.{Schedule}
 use Rattle.schedule.specs.Schedules.{numberOf, tasksIn, routesIn, taskRule, positionOf, known, taskNumbered, routeNumbered, chainAt}
 use Rattle.schedule.specs.Arrays.{Arrays}
+use Rattle.schedule.specs.Padding.{map-at}
 use Rattle.schedule.specs.Rule.{rule}
 use Rattle.schedule.specs.ChainTasks.{chain-tasks}
 use Rattle.schedule.proofs.PlaceLaws.{map-take}
@@ -220,12 +221,6 @@ position-task f (m ∷ places) n h = elim (ℕ-discrete m n) [
   | yes e ↦ rw (eq-eqb m n e) (ap f e)
   | no e ↦ rw (ne-eqb m n e) (position-task f places n (rw (ne-eqb m n e) at h))
 ]
-
--- an entry of a list taken over through f, whatever stands for the entries past the end
-pub map-at : {A B : Type 0} (f : A → B) (l : List A) (i : ℕ) (d : A) (e : B) → i < length l → getD (map f l) i e ≡ f (getD l i d)
-map-at f [] i d e h = absurd (omega arith)
-map-at f (x ∷ l) zero d e h = refl
-map-at f (x ∷ l) (suc i) d e h = map-at f l i d e (omega arith)
 
 module _ (s : Schedule) (a : Arrays s) (n : ℕ) (chosen : choiceOf s n .number ≡ 0) where
   abbrev k : SoundSchedule s

@@ -33,6 +33,7 @@ use Rattle.schedule.specs.declared.NumberedTask.{NumberedTask}
 use Rattle.schedule.specs.declared.Schedule.{Schedule}
 use Rattle.schedule.specs.Schedules.{tasksIn, positionOf, known, taskNumbered, chainAt}
 use Rattle.schedule.specs.Arrays.{Arrays}
+use Rattle.schedule.specs.Padding.{map-at}
 use Rattle.schedule.specs.Numbers.{unknown-position}
 use Rattle.schedule_checks.specs.Checks.{choiceOf}
 use Rattle.schedule_checks.specs.ChosenChain.{chosen-twelve, choice-sound, choice-answers, answer-chosen}
@@ -51,7 +52,7 @@ use Rattle.phase.specs.Phases.{moved, keepsBound, foundAt, smallestOf, p
 use Rattle.phase.specs.Search.{SmallestPhase, NoPhase, smallest-found, none-there, found-smallest, none-smallest, test-remainder}
 use Rattle.phase.specs.PhasesRepeat.{Periods, phases-repeat}
 use Rattle.phase.specs.MovedTasks.{movedAt}
-use Rattle.phase.specs.MovedSchedule.{tasks-moved, period-stays, moved-twice, moved-choice, moved-verdict, moved-arrays, keeps-same, places-filled, tasks-are, map-at, position-task}
+use Rattle.phase.specs.MovedSchedule.{tasks-moved, period-stays, moved-twice, moved-choice, moved-verdict, moved-arrays, keeps-same, places-filled, tasks-are, position-task}
 
 -- A press from the warm-up tick on that waits longer than the bound.
 pub record LatePress (l : List Place) (bound : ℕ) : Type 0 where

@@ -3,6 +3,7 @@ ghost use mathlib.Core.Path.{_≡_};
 ghost use Prim.Native.Nat.{_+_, _*_, _≤_, _<_};
 ghost use Rattle.refusal.specs.Refusals.{codeOf};
 
+#[repr(C)]
 pub struct Refusal {
     pub number: u64,
     pub place: usize,

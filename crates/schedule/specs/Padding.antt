@@ -56,6 +56,12 @@ module _ {A : Type 0} (d : A) where
   padded-at (suc n) (x ∷ l) zero e h = refl
   padded-at (suc n) (x ∷ l) (suc i) e h = padded-at n l i e (omega arith)
 
+-- an entry of a list taken over through f, whatever stands for the entries past the end
+pub map-at : {A B : Type 0} (f : A → B) (l : List A) (i : ℕ) (d : A) (e : B) → i < length l → getD (map f l) i e ≡ f (getD l i d)
+map-at f [] i d e h = absurd (omega arith)
+map-at f (x ∷ l) zero d e h = refl
+map-at f (x ∷ l) (suc i) d e h = map-at f l i d e (omega arith)
+
 -- one entry more of a list that is taken over through f
 map-more : {A B : Type 0} (f : A → B) (l : List A) (i : ℕ) (a : A) → i < length l → map f (take (suc i) l) ≡ map f (take i l) ++ (f (getD l i a) ∷ [])
 map-more f [] i a h = absurd (omega arith)

@@ -1,7 +1,6 @@
 -- What holds at each turn and return of `rises`, `judge` and `section_latencies_on`.
 use Prim.Native.Nat.{ℕ, _+_, _-_, _≤_, _<_}
 use native.Mathlib.Omega.{arith}
-use native.Mathlib.Decide.{decLe}
 use mathlib.Core.Path.{_≡_, refl, sym}
 use mathlib.Core.Bool.{Bool, true, false, cond}
 use mathlib.Core.List.{List}
@@ -14,11 +13,8 @@ use Rattle.chain.specs.declared.Verdict.{Verdict}
 use Rattle.chain.specs.declared.Verdict.the-variants as verdict
 use Rattle.chain.specs.Chains.{placed}
 use Rattle.chain.specs.Checks.{verdictIn}
-use Rattle.chain.specs.Hyperperiod.{hyperOf, UpToLimit}
 use Rattle.chain.proofs.CheckLaws.{accepted-in}
 use Rattle.chain.proofs.Front.{rest-cons, rest-end}
-use Rattle.latency.specs.Latency.{AcceptedAt}
-use Rattle.latency.specs.LongestPlace.{longestPlace, longest-place}
 use Rattle.sections.specs.Sections.{risesTo, afterCuts}
 use Rattle.sections.specs.Uniform.{Cuttable, cuttable-placed}
 
@@ -65,13 +61,3 @@ accepted-cuts g l cuts h e =
     let w = well (length (placed g l)) h cuts (verdictIn g l) e in
     let f = accepted-in g l h (w .0) in
     (cuttable-placed g l h (f .sound) (f .hyper) (f .small), w .1)
-
--- ---- one section
-
--- what the walk at the place of the longest period needs
-pub walk-given : (g : ℕ) (l : List Place) → Cuttable g l → (h : ℕ) → UpToLimit (hyperOf l) h → (p : ℕ) → p ≡ longestPlace l → (1 ≤ p) × (AcceptedAt l (p - 1) h)
-walk-given g l k h up p e =
-    let ok = k .uniform .sound in
-    let q = longest-place l (ok .some) in
-    let few : h ≤ 60000000 = elim (decLe h 60000000) [ yes y ↦ y | no y ↦ absurd (omega (arith, up .above (omega arith), k .small)) ] in
-    (omega (arith, q .some), record { sound = ok; hyper = up .within few; small = few; inside = omega (arith, q .some, q .inside) })

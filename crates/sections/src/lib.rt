@@ -2,7 +2,6 @@
 // `section_latencies` takes any chain and any cuts; `section_latencies_on` any flat list of tasks and any gap. A section is a part of the flat list, which is lent and not copied.
 use chain::Chain;
 use chain::Verdict;
-use latency::Greatest;
 use refusal::Refusal;
 ghost use mathlib.Core.Path.{_≡_};
 ghost use mathlib.Core.Bool.{true};
@@ -43,17 +42,6 @@ fn rises(cuts: &[u64], places: usize) -> bool
     true
 }
 
-// The greatest latency of an accepted list, walked at the place of its longest period.
-fn greatest_of(tasks: &[u64], gap: u64) -> u64
-    requires { ⌜ Cuttable gap (tasksIn gap (now tasks)) ⌝ }
-    ensures { λ r. ⌜ r ≡ greatestLatency (tasksIn gap (now (tasks .entry))) ⌝ }
-{
-    let h = chain::hyperperiod_on(tasks, gap);
-    let p = latency::longest_place(tasks, gap);
-    let found = latency::greatest_at(tasks, gap, p - 1, h);
-    found.latency
-}
-
 // The greatest latency of the section after place a up to place e. It needs no checks: it is a part of what passed them, and its hyperperiod divides that of the whole.
 fn section_latency(tasks: &[u64], gap: u64, a: usize, e: usize) -> u64
     requires { ⌜ (Cuttable gap (tasksIn gap (now tasks))) × (a < e) × (e ≤ length (tasksIn gap (now tasks))) ⌝ }
@@ -61,7 +49,7 @@ fn section_latency(tasks: &[u64], gap: u64, a: usize, e: usize) -> u64
 {
     let from = 3 * a;
     let to = 3 * e;
-    greatest_of(&tasks[from..to], gap)
+    latency::greatest_of(&tasks[from..to], gap)
 }
 
 // The sections of an accepted list and of cuts that rise inside it.

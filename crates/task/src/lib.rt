@@ -7,6 +7,7 @@ ghost use Rattle.task.specs.Jobs.{readOf, writeOf, readableOf, withinLim
 ghost use Rattle.task.specs.Links.{earliestFrom, earliestAfter, latestOver, latestBy, forwardLink, backwardLink};
 
 // Document 01: period T, duration D and phase F.
+#[repr(C)]
 pub struct Task {
     pub period: u64,
     pub duration: u64,

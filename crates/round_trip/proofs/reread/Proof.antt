@@ -1,7 +1,4 @@
-use native.Mathlib.Omega.{arith}
-use mathlib.Core.Path.{_≡_}
-use lib.ListN.{length, length-map}
-use Rattle.schedule.proofs.ArrayLaws.{each-twelve}
+use Rattle.schedule.proofs.ArrayLaws.{arrays}
 use Rattle.round_trip.proofs.Trips.{file-inside, file-part, reread-read, reread-refused}
 use borrow.Author.Needs.{needs}
 use Rattle.round_trip.proofs.reread.Statement.{statement}
@@ -32,10 +29,7 @@ same-length : tie.Need-same-length
 same-length c = search needs
 
 returns : tie.Need-returns
-returns c =
-    let n : length (c .before .before .before .before .before .before .before .before .before .before .args .s .routes) ≡ 4 = simp length-map at (c .before .before .before .before .before .before .before .before .before .before .good .0 .1 .1 .1 .0 .1 .0 .1) in
-    reread-read _ _ _ _ (c .before .before .before .before .before .before .before .write-file .ensures) (c .before .before .before .w .given .0 .0) (c .before .before .before .w .given .1) _
-    (record { tasks = simp length-map at (c .before .before .before .before .before .before .before .before .before .before .good .0 .1 .1 .0 .1 .0 .1); routes = n; places = λ i h. each-twelve (c .before .before .before .before .before .before .before .before .before .before .args .s .routes) _ (c .before .before .before .before .before .before .before .before .before .before .good .0 .1 .1 .1 .0 .1 .1) i (omega (arith, n)) }) (c .read-file .ensures)
+returns c = reread-read _ _ _ _ (c .before .before .before .before .before .before .before .write-file .ensures) (c .before .before .before .w .given .0 .0) (c .before .before .before .w .given .1) _ (arrays (c .before .before .before .before .before .before .before .before .before .before .args .s) _ (c .before .before .before .before .before .before .before .before .before .before .good .0)) (c .read-file .ensures)
 
 same-length-2 : tie.Need-same-length-2
 same-length-2 c = search needs

@@ -29,7 +29,7 @@ part-greatest-of-end : tie.Need-part-greatest-of-end
 part-greatest-of-end c = let s = c .before in omega (arith, in-long (s .args .tasks .now), length-map (givenIn (s .args .tasks .now)) (placeOf (s .args .gap)), s .pre .2)
 
 greatest-of-requires : tie.Need-greatest-of-requires
-greatest-of-requires c κs = let s = c .before .before in subst (Cuttable (s .args .gap)) (sym (in-section (s .args .gap) (s .args .a) (s .args .e) (s .args .tasks .now))) (section-cuttable (s .args .gap) (tasksIn (s .args .gap) (s .args .tasks .now)) (s .pre .0) (s .args .a) (s .args .e) (s .pre .1) (s .pre .2))
+greatest-of-requires c κs = let s = c .before .before in let k = subst (Cuttable (s .args .gap)) (sym (in-section (s .args .gap) (s .args .a) (s .args .e) (s .args .tasks .now))) (section-cuttable (s .args .gap) (tasksIn (s .args .gap) (s .args .tasks .now)) (s .pre .0) (s .args .a) (s .args .e) (s .pre .1) (s .pre .2)) in (k .uniform .sound, k .small)
 
 returns : tie.Need-returns
 returns c = let s = c .before .before .before in c .greatest-of .ensures ∙ ap greatestLatency (in-section (s .args .gap) (s .args .a) (s .args .e) (s .args .tasks .now))

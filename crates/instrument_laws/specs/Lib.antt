@@ -1,0 +1,4 @@
+pub mod Machine
+pub mod Order10
+pub mod Calls
+pub mod EveryList
