@@ -22,8 +22,9 @@
  *   libcapi_file.a      mo_read_file, mo_write_file, mo_chain_of_schedule
  *   libcapi_bookings.a  mo_bookings
  *   libcapi_phase.a     mo_smallest_phase
+ *   libcapi_instrument.a mo_bounded_schedule, mo_make_state, mo_ask, mo_commit
  *   libcapi_report.a    mo_report
- * libcapi_file.a, libcapi_bookings.a, libcapi_phase.a and libcapi_report.a need memcpy and memset from the C library, libcapi_maker.a, libcapi_windows.a,
+ * libcapi_file.a, libcapi_bookings.a, libcapi_phase.a, libcapi_instrument.a and libcapi_report.a need memcpy and memset from the C library, libcapi_maker.a, libcapi_windows.a,
  * libcapi_sections.a, libcapi_histogram.a and libcapi_load.a memset; the other three need nothing (`nm -u` on an archive tells; tests/c/run looks).
  *
  * The archives are for x86-64, in position-independent code that uses its SSE2 registers. The toolchain compiles for no other processor
@@ -82,10 +83,14 @@ extern "C" {
 #define MO_STACK_CHAIN_OF_SCHEDULE 7232u
 #define MO_STACK_BOOKINGS 8896u
 #define MO_STACK_SMALLEST_PHASE 9024u
+#define MO_STACK_BOUNDED_SCHEDULE 4096u
+#define MO_STACK_MAKE_STATE 4096u
+#define MO_STACK_ASK 4096u
+#define MO_STACK_COMMIT 4096u
 #define MO_STACK_REPORT 22848u
 
 /*
- * Refusals: the numbers of document 01, and 16 to 20 of orders 1, 6, 7 and 9 in document 02; order 5 there adds the gap to 5.
+ * Refusals: the numbers of document 01, and 16 to 23 of orders 1, 6, 7, 9 and 10 in document 02; order 5 there adds the gap to 5.
  */
 #define MO_FILE_ENDS_EARLY 1u          /* reading a file: fewer than 4 bytes remain, or a record runs past the file */
 #define MO_RECORD_LENGTH_WRONG 2u      /* reading a file: a length below 4, or one that its kind does not have */
@@ -107,9 +112,12 @@ extern "C" {
 #define MO_WIDTH_ZERO 18u              /* histogram: the width is 0 */
 #define MO_TASK_NOT_IN_CHAIN 19u       /* smallest phase: no place of the chain has the task */
 #define MO_PERIOD_TOO_LONG 20u         /* smallest phase: the task's period is above 10,000 */
+#define MO_ABOVE_BOUND 21u             /* making a state, ask: a chain's greatest latency is above its bound */
+#define MO_NO_PROPOSAL 22u             /* commit: no proposal stands */
+#define MO_OTHER_PROPOSAL 23u          /* commit: the schedule or a bound differs from the proposal's */
 
 /*
- * Every call but mo_read_table and mo_report answers a code: 0 for a success, else a refusal's number and 256 times its place. The place is
+ * Every call but mo_read_table, mo_report and the four on the instrument's state answers a code: 0 for a success, else a refusal's number and 256 times its place. The place is
  *   in every refusal of mo_read_file a byte offset, from 0;
  *   else, for MO_TASK_OUTSIDE_LIMITS, the task's place in the chain, and of a call on a schedule its position among the tasks, from 1; 0 for
  *   the gap;
@@ -465,6 +473,89 @@ uint64_t mo_smallest_phase(const uint64_t *tasks, size_t tasks_length, size_t co
                            const uint64_t *chains, size_t chains_length,
                            const uint64_t *places, size_t places_length, size_t chain_count, uint64_t gap,
                            size_t chain, uint64_t number, uint64_t bound, uint64_t *phase, uint64_t *none);
+
+/* ---- The instrument's state ----
+ *
+ * Changing the schedule that runs needs two steps: mo_ask tries another one, and mo_commit makes it run. The state is a struct that the caller
+ * keeps and hands to each call by value; a call hands back the state that follows. The calls keep nothing and write nothing that is lent.
+ *
+ * A schedule with bounds, mo_bounded, holds the tasks with their numbers, the chains, the two counts and the gap, as the lists above do, and a
+ * bound for each chain, in their order: the greatest latency that it may have. Entries past a count are no part of it, nor are bounds from
+ * entry schedule.chains on: no call looks at them, and in a state that a call hands back they are 0.
+ *
+ * Every field has 8 bytes and the structs have no padding, so a state may be stored and compared as bytes. Hand it on as it is: each call
+ * answers for any state, also for one that no list of calls leaves, but what is promised below holds of states that were made.
+ */
+typedef struct { uint64_t period, duration, phase; } mo_task;
+typedef struct { uint64_t number; mo_task task; } mo_numbered_task;
+typedef struct { uint64_t places[12]; size_t count; } mo_route;
+typedef struct {
+    mo_numbered_task tasks[32];
+    mo_route routes[4]; /* the task numbers at the places of each chain, and how many places it has */
+    size_t count;       /* of the tasks */
+    size_t chains;      /* how many there are */
+    uint64_t gap;
+} mo_schedule;
+typedef struct { mo_schedule schedule; uint64_t bounds[4]; } mo_bounded;
+typedef struct { mo_bounded proposal; uint64_t stands; } mo_side; /* stands: 0 where there is no proposal, which is zeros then; any other number: it stands */
+typedef struct { mo_bounded running; mo_side firmware; } mo_state;
+typedef struct { uint64_t number; size_t place; } mo_refusal; /* number 0 at place 0 in a success; the numbers and places are those of a code */
+typedef struct { mo_state state; mo_refusal refusal; } mo_made_state;
+typedef struct { mo_state state; mo_refusal refusal; uint64_t latencies[4]; } mo_asked;
+typedef struct { mo_state state; mo_refusal refusal; } mo_committed;
+
+/*
+ * A schedule with bounds from the lists that mo_read_file gives, or any lists that mean a schedule above. It judges nothing: where a list does
+ * not hold what is counted, the count becomes 0, and what takes the schedule then refuses it with MO_PLACES_OUTSIDE_LIMITS. It may be made by
+ * hand as well.
+ */
+mo_bounded mo_bounded_schedule(const uint64_t *tasks, size_t tasks_length, size_t count,
+                               const uint64_t *chains, size_t chains_length,
+                               const uint64_t *places, size_t places_length, size_t chain_count, uint64_t gap,
+                               const uint64_t bounds[4]);
+
+/*
+ * A state in which b runs and no proposal stands.
+ *
+ * Refuses, the first that applies:
+ *   MO_PLACES_OUTSIDE_LIMITS, MO_TASK_OUTSIDE_LIMITS, MO_TASK_UNKNOWN   as each call on a schedule does, with the same places;
+ *   MO_HYPERPERIOD_TOO_LONG   that of one of its chains is above 60,000,000; at place 0;
+ *   MO_ABOVE_BOUND            the greatest latency of one of its chains is above that chain's bound; at place 0.
+ * These are the refusals of an ask for b. A refusal hands back a state of zeros.
+ */
+mo_made_state mo_make_state(mo_bounded b);
+
+/*
+ * Tries b: latencies becomes the greatest latency of each chain, in their order, with 0 past the chains, and b the proposal of the state that is
+ * handed back, in place of an earlier one. What runs stays.
+ *
+ * Refuses as mo_make_state does. A refusal hands the state back as it was, an earlier proposal included, and 0 in every entry of latencies.
+ */
+mo_asked mo_ask(mo_state s, mo_bounded b);
+
+/*
+ * Makes the proposal run, which b names again, schedule and bounds; in the state that is handed back no proposal stands.
+ *
+ * Refuses, the first that applies, both at place 0, and makes no other check:
+ *   MO_NO_PROPOSAL      no proposal stands;
+ *   MO_OTHER_PROPOSAL   the schedule or a bound differs from the proposal's, be b faulty or not.
+ * A refusal hands the state back as it was.
+ *
+ * From a state that mo_make_state made, over every list of asks and commits, what runs is what the last commit that was not refused names, or
+ * what the state was made with; every check passes of it, and no press by any of its chains, from that chain's warm-up tick on, waits longer
+ * than the chain's bound. That is proved (crates/instrument_laws).
+ *
+ *     uint64_t bounds[4] = { 20000, 20000 };
+ *     mo_bounded b = mo_bounded_schedule(tasks, 128, counts[0], chains, 48, places, 4, counts[1], counts[2], bounds);
+ *     mo_asked a = mo_ask(state, b);
+ *     state = a.state;
+ *     if (a.refusal.number == 0) {
+ *         .. show a.latencies, and when the caver agrees:
+ *         mo_committed c = mo_commit(state, b);
+ *         state = c.state;
+ *     }
+ */
+mo_committed mo_commit(mo_state s, mo_bounded b);
 
 /*
  * The report of a schedule file: of each chain in turn a line with its number, then its table, made with 1,024 slots and cut at the longest

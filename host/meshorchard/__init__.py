@@ -10,5 +10,6 @@ from .calls import Broken
 from .lent import Chain, Schedule, Table, Task
 from .library import Missing
 from .refusals import Refused
+from .structs import Bounded, State
 
-__all__ = ["Broken", "Chain", "Missing", "Refused", "Schedule", "Table", "Task"]
+__all__ = ["Bounded", "Broken", "Chain", "Missing", "Refused", "Schedule", "State", "Table", "Task"]

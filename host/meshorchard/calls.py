@@ -6,13 +6,14 @@ refusal and past the counts, is looked at in each call; where it does not hold, 
 from __future__ import annotations
 
 from dataclasses import dataclass
-from typing import Optional, Tuple
+from typing import Optional, Sequence, Tuple
 
-from . import library
+from . import library, structs
 from .lent import (
     ROW, UNWRITTEN, Bytes, Chain, Numbers, Schedule, Table, WritableBytes, WritableNumbers, answers, lend, lend_bytes, lend_bytes_to_write, lend_to_write, number,
 )
 from .refusals import Refused
+from .structs import Bounded, State
 
 # Reading a table answers a delay below this, or this and the refusal's number.
 REFUSED = 2**32
@@ -240,6 +241,46 @@ def smallest_phase(schedule: Schedule, number_of_chain: int, number_of_task: int
         raise Broken(f"the phase is {phase} and none {none}")
     return None if none else phase
 
+
+# ---- The instrument's state
+
+def bounded_schedule(schedule: Schedule, bounds: Sequence[int]) -> Bounded:
+    """A schedule with the bounds of its chains, of which up to four are given. Nothing is judged."""
+    return library.load().mo_bounded_schedule(*schedule.lent(), structs.four([number(bound) for bound in bounds]))
+
+
+def _answered(answer, kept: State):
+    """An answer that is no refusal. After a refusal the state must be the one that is to be kept, and every latency 0."""
+    refusal = answer.refusal
+    if refusal.number == 0:
+        if refusal.place:
+            raise Broken(f"a success has the place {refusal.place}")
+        return answer
+    if answer.state != kept or any(getattr(answer, "latencies", ())):
+        raise Broken(f"beside the refusal {refusal.number} the call handed back another state or latencies")
+    raise Refused(refusal.number, refusal.place, "schedule")
+
+
+def make_state(bounded: Bounded) -> State:
+    """A state in which this runs and no proposal stands."""
+    return _answered(library.load().mo_make_state(bounded), State()).state
+
+
+def ask(state: State, bounded: Bounded) -> Tuple[State, Tuple[int, ...]]:
+    """The state with this as its proposal, and the greatest latency of each chain. A refusal leaves the state as it is."""
+    answer = _answered(library.load().mo_ask(state, bounded), state)
+    chains = bounded.schedule.chains
+    if chains > 4 or any(answer.latencies[chains:]):
+        raise Broken(f"the latencies of {chains} chains are {list(answer.latencies)}")
+    return answer.state, tuple(answer.latencies[:chains])
+
+
+def commit(state: State, bounded: Bounded) -> State:
+    """The state in which the proposal runs, which is named again. A refusal leaves the state as it is."""
+    return _answered(library.load().mo_commit(state, bounded), state).state
+
+
+# ---- Reports
 
 def report(data: Bytes, out: WritableBytes) -> int:
     """The length of the text; as much of it as fits is left in `out`."""

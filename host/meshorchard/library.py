@@ -5,13 +5,14 @@ import ctypes
 import functools
 import os
 
+from . import structs
+from .structs import NUMBER, SIZE
+
 TOP = os.path.dirname(os.path.dirname(os.path.dirname(os.path.abspath(__file__))))
 # The variable names another one.
 VARIABLE = "MESHORCHARD_LIBRARY"
 MADE = os.path.join(TOP, "target", "host", "libmeshorchard.so")
 
-NUMBER = ctypes.c_uint64
-SIZE = ctypes.c_size_t
 NUMBERS = ctypes.POINTER(NUMBER)
 BYTES = ctypes.POINTER(ctypes.c_char)
 
@@ -40,7 +41,18 @@ DECLARED = {
     "mo_chain_of_schedule": (*SCHEDULE, SIZE, NUMBERS, NUMBERS),
     "mo_bookings": (*SCHEDULE, SIZE, SIZE, NUMBER, NUMBERS),
     "mo_smallest_phase": (*SCHEDULE, SIZE, NUMBER, NUMBER, NUMBERS, NUMBERS),
+    "mo_bounded_schedule": (*SCHEDULE, NUMBERS),
+    "mo_make_state": (structs.Bounded,),
+    "mo_ask": (structs.State, structs.Bounded),
+    "mo_commit": (structs.State, structs.Bounded),
     "mo_report": (BYTES, SIZE, BYTES, SIZE),
+}
+# What a call hands back; a number where nothing is said.
+GIVES = {
+    "mo_bounded_schedule": structs.Bounded,
+    "mo_make_state": structs.MadeState,
+    "mo_ask": structs.Asked,
+    "mo_commit": structs.Committed,
 }
 
 
@@ -67,7 +79,7 @@ def load() -> ctypes.CDLL:
         found = ctypes.CDLL(where)
         for name, arguments in DECLARED.items():
             call = getattr(found, name)
-            call.argtypes, call.restype = arguments, NUMBER
+            call.argtypes, call.restype = arguments, GIVES.get(name, NUMBER)
     except (OSError, AttributeError) as fault:
         raise Missing(f"this is no shared object of the proved calls: {fault}; {cure}") from None
     return found
