@@ -1,7 +1,7 @@
 """Reference program of Meshorchard: delay tables for chains of
 fixed-duration tasks of cave-survey laser instruments.
 
-It is written from document 01 and orders 1 to 3 and 5 to 9 of document 02
+It is written from document 01 and orders 1 to 3 and 5 to 10 of document 02
 alone and follows their definitions as literally as running time allows.  It
 uses the standard library only.  Order 4 changes no answer.  Only the words
 and lines of chainload, and the task numbers in its file, are not in these
@@ -14,6 +14,9 @@ Conventions
   A schedule is given as task_count, tasks, chain_count, chains, gap.  A task
   there is (number, T, D, F), a chain is (place_count, task numbers).  Entries
   past a count are no part of it.  Its gap is that of each of its chains.
+  A schedule with bounds, called held, is one tuple of these five and the
+  bounds, one for each chain.  A state is (running, proposal), each as named()
+  gives it; the proposal is None where none stands.
   Places and chains count from 1, job numbers count from 0.
   A success is ("ok", ...), a refusal is ("refused", number, place).
 """
@@ -1227,6 +1230,111 @@ def latency_at_phases_of(task_count, tasks, chain_count, chains, gap, n,
                                  n, number, phase)
         latencies.append(greatest_latency(chain, gap))
     return ("ok", latencies)
+
+
+# ---------------------------------------------------------------------------
+# A running schedule and a proposal
+# ---------------------------------------------------------------------------
+
+def named(held):
+    """What counts of a schedule with bounds, in tuples and nothing else.
+
+    It has the six parts of held, cut at their counts.  Document 01: "Array
+    entries past a count are no part of a schedule or chain."  Document 02,
+    order 10: "Bounds beyond the chain count are not looked at."  The counts
+    stay in it: one beyond its array takes the entries that are there, and
+    differs all the same.  So two are the same schedule with the same bounds
+    exactly where this is equal.
+    """
+    task_count, tasks, chain_count, chains, gap, bounds = held
+    return (task_count,
+            tuple(tuple(task) for task in tasks[:task_count]),
+            chain_count,
+            tuple((place_count, tuple(numbers[:place_count]))
+                  for place_count, numbers in chains[:chain_count]),
+            gap,
+            tuple(bounds[:chain_count]))
+
+
+# What a caller has after a refused making: no task, no chain, gap 0, no bound
+# and no proposal.
+STATE_OF_ZEROS = (named((0, (), 0, (), 0, ())), None)
+
+
+def latencies_within_bounds(held):
+    """The greatest latency of each chain: ("ok", latencies), or a refusal.
+
+    Document 02, order 10: "After the schedule's own checks (8, 5 and 6 as in
+    order 1, then 7 chain by chain) ask refuses a latency above its bound
+    with 21".  So every 7 comes before any 21.  A latency equal to its bound
+    passes.  The bounds are any 64-bit numbers.
+    """
+    task_count, tasks, chain_count, chains, gap, bounds = held
+    fault = schedule_fault(task_count, tasks, chain_count, chains, gap)
+    if fault is not None:
+        return fault
+    analysed = []
+    for n in range(1, chain_count + 1):
+        chain = chain_of_schedule(task_count, tasks, chain_count, chains, gap,
+                                  n)
+        if chain[0] != "ok":
+            raise AssertionError("a chain of a good schedule is refused")
+        analysed.append(chain[1])
+    # 7: each chain's own hyperperiod.
+    for chain in analysed:
+        answer = check_chain(chain, gap)
+        if answer[0] != "ok":
+            return answer
+    latencies = [greatest_latency(chain, gap) for chain in analysed]
+    # 21: a latency above its bound, at place 0 whichever chain it is.
+    for index, latency in enumerate(latencies):
+        if latency > bounds[index]:
+            return refused(21)
+    return ("ok", latencies)
+
+
+def make_state(held):
+    """Making a state: ("ok", state), or refusal 8, 5, 6, 7, 21.
+
+    Document 02, order 10: "Making a state takes a schedule with bounds and
+    refuses what an ask would refuse, then handing back a state of zeros."
+    A made state has no proposal.
+    """
+    answer = latencies_within_bounds(held)
+    if answer[0] != "ok":
+        return answer
+    return ("ok", (named(held), None))
+
+
+def ask(state, held):
+    """Ask: (answer, state after).
+
+    The answer is ("ok", latencies), or refusal 8, 5, 6, 7, 21.  Document 02,
+    order 10: "Ask takes a schedule with bounds, gives the greatest latencies,
+    and keeps it as the proposal in place of an earlier one."  "A refused call
+    alters neither", so it leaves the running one and the proposal.
+    """
+    running, _earlier = state
+    answer = latencies_within_bounds(held)
+    if answer[0] != "ok":
+        return (answer, state)
+    return (answer, (running, named(held)))
+
+
+def commit(state, held):
+    """Commit: (answer, state after).
+
+    The answer is ("ok",), or refusal 22, 23.  Document 02, order 10: "Commit
+    names the schedule and bounds again and makes them run, clearing the
+    proposal."  It "makes no other checks than 22 if no proposal stands, and
+    then 23 if schedule or bounds differ from it, faulty ones included."
+    """
+    _running, proposal = state
+    if proposal is None:
+        return (refused(22), state)
+    if named(held) != proposal:
+        return (refused(23), state)
+    return (("ok",), (proposal, None))
 
 
 # ---------------------------------------------------------------------------

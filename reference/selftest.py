@@ -5425,6 +5425,847 @@ def group_phase_refusals(rng):
          ("refused", 19, 0), "19 before 20")
 
 
+# ---------------------------------------------------------------------------
+# A running schedule and a proposal, order 10
+# ---------------------------------------------------------------------------
+
+TASKS_A = [(1, 4, 4, 0), (2, 6, 6, 0)]
+
+# Greatest latencies by hand, of chains of tasks 1 and 2, by gap.  Task 1
+# reads and writes on multiples of 4, task 2 on multiples of 6.  After each
+# press stand read, write, read, write; a press at a read is the latest.
+BY_HAND = {
+    0: {(1,): 8, (2,): 12,
+        # 0: 4, 8, 12, 18.  4: 8, 12, 12, 18.  8: 12, 16, 18, 24.
+        (1, 2): 18,
+        # 0: 6, 12, 12, 16.  6: 12, 18, 20, 24.
+        (2, 1): 18,
+        # 0: 4, 8, 8, 12.
+        (1, 1): 12,
+        # 0: 4, 8, 12, 18, 20, 24.  4 to the same, 8: 12, 16, 18, 24, 24, 28.
+        (1, 2, 1): 24},
+    1: {(1,): 8, (2,): 12,
+        # 0: 4, 8, 12, 18.  4: 8, 12, 18, 24.  8: 12, 16, 18, 24.
+        (1, 2): 20,
+        # 0: 6, 12, 16, 20.  6: 12, 18, 20, 24.
+        (2, 1): 20,
+        # 0: 4, 8, 12, 16.
+        (1, 1): 16,
+        # 0: 4, 8, 12, 18, 20, 24.  4: 8, 12, 18, 24, 28, 32.  8 to the same.
+        (1, 2, 1): 28},
+    1_000: {(1,): 8, (2,): 12,
+            # 0: 4, 8, 1,008, 1,014.  4: 8, 12, 1,014, 1,020.
+            # 8: 12, 16, 1,020, 1,026.
+            (1, 2): 1_018,
+            # 0: 6, 12, 1,012, 1,016.  6: 12, 18, 1,020, 1,024.
+            (2, 1): 1_018,
+            # 0: 4, 8, 1,008, 1,012.
+            (1, 1): 1_012,
+            # 0: 4, 8, 1,008, 1,014, 2,016, 2,020.
+            # 4: 8, 12, 1,014, 1,020, 2,020, 2,024.
+            # 8: 12, 16, 1,020, 1,026, 2,028, 2,032.
+            (1, 2, 1): 2_024},
+}
+
+
+def with_bounds(tasks, chains, gap, bounds):
+    """A schedule with bounds; those beyond the chain count are junk."""
+    return (*schedule(tasks, chains, gap),
+            list(bounds) + [0] * (4 - len(bounds)))
+
+
+def written_out(held):
+    """What counts of a schedule with bounds, entry by entry."""
+    task_count, tasks, chain_count, chains, gap, bounds = held
+    counted_tasks, counted_chains, counted_bounds = (), (), ()
+    for index in range(32):
+        if index < task_count:
+            number, T, D, F = tasks[index]
+            counted_tasks += ((number, T, D, F),)
+    for which in range(4):
+        if which < chain_count:
+            places = chains[which][0]
+            numbers = ()
+            for index in range(12):
+                if index < places:
+                    numbers += (chains[which][1][index],)
+            counted_chains += ((places, numbers),)
+            counted_bounds += (bounds[which],)
+    return (task_count, counted_tasks, chain_count, counted_chains, gap,
+            counted_bounds)
+
+
+def alike(one, other):
+    """Whether two schedules with bounds are the same, without writing them
+    out: a difference is looked for, first in the counts."""
+    for part in (0, 2, 4):
+        if one[part] != other[part]:
+            return False
+    for index in range(min(one[0], 32)):
+        for value in range(4):
+            if one[1][index][value] != other[1][index][value]:
+                return False
+    for which in range(min(one[2], 4)):
+        if one[3][which][0] != other[3][which][0] \
+                or one[5][which] != other[5][which]:
+            return False
+        for index in range(min(one[3][which][0], 12)):
+            if one[3][which][1][index] != other[3][which][1][index]:
+                return False
+    return True
+
+
+def any_number(rng):
+    """A number of any kind."""
+    return rng.choice([0, 1, 2, 12, 65_535, 2 ** 32 - 1, HIGHEST,
+                       rng.randrange(100), rng.randrange(2 ** 64)])
+
+
+def with_other_junk(rng, held):
+    """The same, with what lies past a count drawn anew."""
+    task_count, tasks, chain_count, chains, gap, bounds = held
+    tasks = [tasks[index] if index < task_count
+             else tuple(any_number(rng) for _ in range(4))
+             for index in range(32)]
+    chains = [(chains[which][0] if which < chain_count else any_number(rng),
+               [chains[which][1][index]
+                if which < chain_count and index < chains[which][0]
+                else any_number(rng) for index in range(12)])
+              for which in range(4)]
+    bounds = [bounds[which] if which < chain_count else any_number(rng)
+              for which in range(4)]
+    if rng.random() < 0.5:
+        tasks, bounds = tuple(tasks), tuple(bounds)
+        chains = tuple((count, tuple(numbers)) for count, numbers in chains)
+    return (task_count, tasks, chain_count, chains, gap, bounds)
+
+
+def is_7(tasks):
+    """Whether no tick up to the limit is a multiple of all periods."""
+    longest = max(T for T, _D, _F in tasks)
+    return not any(all(tick % T == 0 for T, _D, _F in tasks)
+                   for tick in range(longest, 60_000_001, longest))
+
+
+KNOWN_GREATEST = {}
+
+
+def known_greatest(tasks, gap):
+    """literal_greatest, each chain once."""
+    key = (tuple(tasks), gap)
+    if key not in KNOWN_GREATEST:
+        KNOWN_GREATEST[key] = literal_greatest(tasks, gap)
+    return KNOWN_GREATEST[key]
+
+
+def places_of(held, which):
+    """The places of a chain of a good schedule as (T, D, F)."""
+    task_count, tasks, _chain_count, chains, _gap, _bounds = held
+    places, numbers = chains[which]
+    return [tasks[at][1:] for index in range(places)
+            for at in range(task_count) if tasks[at][0] == numbers[index]]
+
+
+def judged(held, greatest=known_greatest):
+    """What an ask answers, without the program."""
+    fault = listed_fault(*held[:5])
+    if fault is not None:
+        return fault
+    chains = [places_of(held, which) for which in range(held[2])]
+    if any(is_7(chain) for chain in chains):
+        return ("refused", 7, 0)
+    latencies = [greatest(chain, held[4]) for chain in chains]
+    if any(held[5][which] < one for which, one in enumerate(latencies)):
+        return ("refused", 21, 0)
+    return ("ok", latencies)
+
+
+def check_ask_and_make(held, expected, states, what):
+    """Both calls, and a commit that follows: the form is written out."""
+    form = written_out(held)
+    if expected[0] == "ok":
+        same(ref.make_state(held), ("ok", (form, None)), "make, " + what)
+        for running, proposal in states:
+            found, after = ref.ask((running, proposal), held)
+            same((found, after), (expected, (running, form)), "ask, " + what)
+            same(ref.commit(after, held), (("ok",), (form, None)),
+                 "commit, " + what)
+    else:
+        same(ref.make_state(held), expected, "make, " + what)
+        for state in states:
+            same(ref.ask(state, held), (expected, state), "ask, " + what)
+
+
+def states_by_hand():
+    """A state without a proposal and one with, and one made of zeros."""
+    one = (2, ((1, 4, 4, 0), (2, 6, 6, 0)), 2, ((2, (1, 2)), (1, (2,))), 0,
+           (18, 12))
+    two = (1, ((9, 10, 3, 5),), 1, ((1, (9,)),), 1_000, (HIGHEST,))
+    zeros = (0, (), 0, (), 0, ())
+    return [(one, None), (one, two), (two, one), (zeros, None)]
+
+
+def group_states_by_hand(_rng):
+    # Greatest latencies and bounds at them.
+    for gap, latencies in BY_HAND.items():
+        for count in (1, 2, 3, 4):
+            for chains in itertools.permutations(latencies, count):
+                expected = [latencies[chain] for chain in chains]
+                check_ask_and_make(
+                    with_bounds(TASKS_A, chains, gap, expected),
+                    ("ok", expected), states_by_hand()[:2],
+                    "%r gap %d" % (chains, gap))
+                if count > 2:
+                    continue
+                for which in range(count):
+                    for other, answer in (
+                            (expected[which] - 1, ("refused", 21, 0)),
+                            (expected[which] + 1, ("ok", expected)),
+                            (0, ("refused", 21, 0)),
+                            (HIGHEST, ("ok", expected))):
+                        at = list(expected)
+                        at[which] = other
+                        check_ask_and_make(
+                            with_bounds(TASKS_A, chains, gap, at), answer,
+                            states_by_hand(),
+                            "%r gap %d bounds %r" % (chains, gap, at))
+    # A way through all of it, with every state written by hand.
+    A = [[1, 2], [2]]
+    plain = (2, ((1, 4, 4, 0), (2, 6, 6, 0)), 2, ((2, (1, 2)), (1, (2,))), 0,
+             (18, 12))
+    gapped = (2, ((1, 4, 4, 0), (2, 6, 6, 0)), 2, ((2, (1, 2)), (1, (2,))), 1,
+              (20, 13))
+    roomy = (2, ((1, 4, 4, 0), (2, 6, 6, 0)), 2, ((2, (1, 2)), (1, (2,))), 1,
+             (HIGHEST, 12))
+    single = (1, ((2, 6, 6, 0),), 1, ((1, (2,)),), 0, (12,))
+    a_plain = with_bounds(TASKS_A, A, 0, [18, 12])
+    a_gapped = with_bounds(TASKS_A, A, 1, [20, 13])
+    a_roomy = with_bounds(TASKS_A, A, 1, [HIGHEST, 12])
+    a_single = with_bounds(TASKS_A[1:], [[2]], 0, [12])
+    same([ref.named(held) for held in (a_plain, a_gapped, a_roomy, a_single)],
+         [plain, gapped, roomy, single], "what is named")
+    tight = with_bounds(TASKS_A, A, 1, [19, 13])
+    tight_second = with_bounds(TASKS_A, A, 1, [20, 11])
+    same(ref.make_state(a_plain), ("ok", (plain, None)), "made")
+    same(ref.make_state(tight), ("refused", 21, 0), "not made")
+    same(ref.STATE_OF_ZEROS, ((0, (), 0, (), 0, ()), None), "zeros")
+    # 8, 5 of a task, 5 of the gap, 6, 7.
+    faulty = [
+        (with_bounds(TASKS_A, [], 0, []), ("refused", 8, 0)),
+        (with_bounds(TASKS_A, [[1, 2], []], 0, [18, 12]), ("refused", 8, 0)),
+        (with_bounds([(1, 4, 4, 0), (1, 6, 6, 0)], [[1]], 0, [18]),
+         ("refused", 5, 2)),
+        (with_bounds(TASKS_A, A, 1_001, [18, 12]), ("refused", 5, 0)),
+        (with_bounds(TASKS_A, [[1, 2], [2, 3]], 0, [18, 12]),
+         ("refused", 6, 2)),
+        (with_bounds([(1, 151, 1, 0), (2, 397_351, 1, 0)], A, 0,
+                     [HIGHEST] * 2), ("refused", 7, 0)),
+        (tight, ("refused", 21, 0)), (tight_second, ("refused", 21, 0)),
+    ]
+    # Call, what it takes, its answer, the state after it.
+    way = [
+        (ref.commit, a_plain, ("refused", 22, 0), (plain, None)),
+        (ref.commit, a_gapped, ("refused", 22, 0), (plain, None)),
+        (ref.ask, tight, ("refused", 21, 0), (plain, None)),
+        (ref.commit, tight, ("refused", 22, 0), (plain, None)),
+        (ref.ask, a_gapped, ("ok", [20, 12]), (plain, gapped)),
+        (ref.ask, a_gapped, ("ok", [20, 12]), (plain, gapped)),
+        (ref.ask, tight, ("refused", 21, 0), (plain, gapped)),
+        (ref.commit, tight, ("refused", 23, 0), (plain, gapped)),
+        # The running one is not the proposal, nor is another's bound.
+        (ref.commit, a_plain, ("refused", 23, 0), (plain, gapped)),
+        (ref.commit, a_roomy, ("refused", 23, 0), (plain, gapped)),
+        (ref.ask, a_roomy, ("ok", [20, 12]), (plain, roomy)),
+        # The earlier proposal is gone.
+        (ref.commit, a_gapped, ("refused", 23, 0), (plain, roomy)),
+        (ref.commit, a_roomy, ("ok",), (roomy, None)),
+        (ref.commit, a_roomy, ("refused", 22, 0), (roomy, None)),
+        (ref.commit, a_gapped, ("refused", 22, 0), (roomy, None)),
+        (ref.ask, a_single, ("ok", [12]), (roomy, single)),
+        (ref.ask, a_plain, ("ok", [18, 12]), (roomy, plain)),
+        (ref.ask, tight_second, ("refused", 21, 0), (roomy, plain)),
+        (ref.ask, a_single, ("ok", [12]), (roomy, single)),
+        (ref.commit, a_single, ("ok",), (single, None)),
+        # What runs may be asked for and made to run once more.
+        (ref.ask, a_single, ("ok", [12]), (single, single)),
+        (ref.commit, a_single, ("ok",), (single, None)),
+        (ref.commit, a_single, ("refused", 22, 0), (single, None)),
+    ]
+    state = (plain, None)
+    for turn, (call, held, answer, after) in enumerate(way):
+        what = "call %d" % (turn + 1)
+        same(call(state, held), (answer, after), what)
+        # A fault in between is answered and changes nothing.
+        standing = 22 if after[1] is None else 23
+        for bad, refusal in faulty:
+            same(ref.make_state(bad), refusal, "make, fault")
+            same(ref.ask(after, bad), (refusal, after), "ask, fault")
+            same(ref.commit(after, bad), (("refused", standing, 0), after),
+                 "commit, fault")
+        state = after
+    # From a state of zeros the calls go on as from any other.
+    same(ref.commit(ref.STATE_OF_ZEROS, a_single),
+         (("refused", 22, 0), ref.STATE_OF_ZEROS), "zeros")
+    zeros_asked = ((0, (), 0, (), 0, ()), single)
+    same(ref.ask(ref.STATE_OF_ZEROS, a_single),
+         (("ok", [12]), zeros_asked), "zeros")
+    same(ref.commit(zeros_asked, a_single), (("ok",), (single, None)),
+         "zeros")
+    # What is given stays, and what is kept does not hang on it.
+    tasks, chains, bounds = list(TASKS_A), [(1, [2, 1, 1])], [12, 0, 0, 0]
+    held = (2, tasks, 1, chains, 0, bounds)
+    kept = (2, ((1, 4, 4, 0), (2, 6, 6, 0)), 1, ((1, (2,)),), 0, (12,))
+    _ok, made = ref.make_state(held)
+    _answer, asked = ref.ask(made, held)
+    same(held, (2, [(1, 4, 4, 0), (2, 6, 6, 0)], 1, [(1, [2, 1, 1])], 0,
+                [12, 0, 0, 0]), "what is given stays")
+    tasks[0], chains[0][1][0], bounds[0] = (1, 5, 5, 0), 1, 99
+    same((made, asked), ((kept, None), (kept, kept)), "what is kept stays")
+    same(ref.commit(asked, held), (("refused", 23, 0), (kept, kept)),
+         "what is given became another")
+
+
+def group_state_refusals(rng):
+    """Every selection of the faults in one call."""
+    # Tasks 4 and 5 together are 7, and 3 and 8 are unknown.
+    tasks = [(1, 4, 4, 0), (2, 6, 6, 0), (4, 999_983, 1, 0),
+             (5, 999_979, 1, 0)]
+    states = states_by_hand()
+    met = {}
+    for faults in itertools.product((False, True), repeat=6):
+        eight, five, far, six, seven, over = faults
+        for _ in range(25):
+            gap = rng.choice(list(BY_HAND))
+            chains = [list(rng.choice(list(BY_HAND[gap])))
+                      for _ in range(rng.randint(1, 3 if seven else 4))]
+            latencies = [BY_HAND[gap][tuple(chain)] for chain in chains]
+            bounds = [rng.choice([one, one, one + 1, HIGHEST])
+                      for one in latencies]
+            if over:
+                which = rng.randrange(len(chains))
+                bounds[which] = rng.choice([latencies[which] - 1, 0])
+            if seven:
+                # Before or behind a latency above its bound.
+                at = rng.randint(0, len(chains))
+                chains.insert(at, rng.choice([[4, 5], [5, 1, 4], [2, 4, 5]]))
+                bounds.insert(at, rng.choice([0, HIGHEST]))
+            place = 0
+            if six:
+                which = rng.randrange(len(chains))
+                index = rng.randrange(len(chains[which]))
+                chains[which][index] = 8
+                if rng.random() < 0.5:
+                    chains[-1][-1] = 3
+                place = next(position for numbers in chains
+                             for position, one in enumerate(numbers, start=1)
+                             if one in (3, 8))
+            if far:
+                gap = rng.choice([1_001, 65_536, HIGHEST])
+                place = 0
+            given = list(tasks)
+            if five:
+                index = rng.randrange(4)
+                one, T, D, F = given[index]
+                given[index] = rng.choice([
+                    (one, 0, D, F), (one, 1_000_001, D, F), (one, T, 0, F),
+                    (one, T, 4_000_001, F), (one, T, D, 1_000_001),
+                    (one, T, D, HIGHEST), (index - (index > 2), T, D, F),
+                    (65_536, T, D, F)])
+                place = index + 1
+            held = list(with_bounds(given, chains, gap, bounds))
+            if eight:
+                kind = rng.randrange(3)
+                if kind == 0:
+                    held[0] = rng.choice([0, 33, 40, HIGHEST])
+                elif kind == 1:
+                    held[2] = rng.choice([0, 5, 9, HIGHEST])
+                else:
+                    which = rng.randrange(len(chains))
+                    held[3][which] = (rng.choice([0, 13, HIGHEST]),
+                                      held[3][which][1])
+                place = 0
+            held = tuple(held)
+            number = next((one for one, holds
+                           in zip((8, 5, 5, 6, 7, 21), faults) if holds),
+                          None)
+            expected = ("ok", latencies)
+            if number is not None:
+                expected = ("refused", number,
+                            place if number in (5, 6) else 0)
+            met[number] = met.get(number, 0) + 1
+            what = "%r" % (held,)
+            same(judged(held, lambda chain, gap: BY_HAND[gap][tuple(
+                1 if task[0] == 4 else 2 for task in chain)]), expected,
+                 "judged, " + what)
+            check_ask_and_make(held, expected, states, what)
+            # A commit looks for no fault.
+            for state in states:
+                same(ref.commit(state, held),
+                     (("refused", 22 if state[1] is None else 23, 0), state),
+                     "commit, " + what)
+    same(set(met), {None, 8, 5, 6, 7, 21}, "every refusal was met")
+    # The faults of a schedule at large, with any numbers for the bounds.
+    for _ in range(600):
+        arguments = faulty_schedule(rng, any_gap)
+        fault = listed_fault(*arguments)
+        if fault is None:
+            continue
+        held = (*arguments, [any_number(rng) for _ in range(4)])
+        check_ask_and_make(held, fault, states[:3], "%r" % (held,))
+        for state in states:
+            same(ref.commit(state, held)[1], state, "commit of a fault")
+    # 7 is each chain's own.  H 60,000,000 passes and one more does not.
+    primes = [(1, 999_983, 7, 0), (2, 999_979, 5, 3), (3, 151, 1, 0),
+              (4, 397_351, 1, 0), (5, 800_000, 2, 0), (6, 937_500, 1, 0),
+              (7, 15_625, 1, 0)]
+    for chains, expected in (
+            ([[1], [2]], ("ok", [999_990, 999_984])),
+            ([[1, 2]], ("refused", 7, 0)),
+            ([[1], [2, 1], [2]], ("refused", 7, 0)),
+            ([[2], [1], [1, 2], [1]], ("refused", 7, 0)),
+            ([[1], [1], [1], [2, 1]], ("refused", 7, 0)),
+            ([[1], [1], [1], [2, 2]], ("ok", [999_990] * 3 + [
+                greatest_of_two(*[primes[1][1:]] * 2, 0)])),
+            ([[3], [4]], ("ok", [152, 397_352])),
+            ([[3, 4]], ("refused", 7, 0)),
+            ([[3], [4, 3]], ("refused", 7, 0)),
+            # 256 * 3,125 and 4 * 3 * 78,125: H is 60,000,000.
+            ([[5, 6], [6]], ("ok", [
+                greatest_of_two(primes[4][1:], primes[5][1:], 0), 937_501])),
+            ([[6, 5], [7]], ("ok", [
+                greatest_of_two(primes[5][1:], primes[4][1:], 0), 15_626])),
+            ([[7], [5, 6], [3]], ("ok", [
+                15_626, greatest_of_two(primes[4][1:], primes[5][1:], 0),
+                152])),
+            ([[6, 5], [3, 6], [2]], ("refused", 7, 0))):
+        for bounds in ([HIGHEST] * len(chains),
+                       expected[1] if expected[0] == "ok" else [0] * 4):
+            check_ask_and_make(
+                with_bounds(primes, chains, 0, bounds[:len(chains)]),
+                expected, states, "%r" % (chains,))
+
+
+def single_changes(held):
+    """Every counted value of a schedule with bounds changed by itself."""
+    task_count, tasks, chain_count, chains, gap, bounds = held
+    changed = []
+    for count in {0, 1, task_count - 1, task_count + 1, 32, 33, 40,
+                  HIGHEST} - {task_count}:
+        changed.append((count, tasks, chain_count, chains, gap, bounds))
+    for count in {0, 1, chain_count - 1, chain_count + 1, 4, 5, 9,
+                  HIGHEST} - {chain_count}:
+        changed.append((task_count, tasks, count, chains, gap, bounds))
+    for other in {0, 1, gap + 1, 1_000, 1_001, gap ^ 2 ** 63} - {gap}:
+        changed.append((task_count, tasks, chain_count, chains, other,
+                        bounds))
+    for at in range(task_count):
+        for value in range(4):
+            for step in (1, 65_536, HIGHEST):
+                task = list(tasks[at])
+                task[value] = (task[value] + step) % 2 ** 64
+                others = list(tasks)
+                others[at] = tuple(task)
+                changed.append((task_count, others, chain_count, chains, gap,
+                                bounds))
+    for which in range(chain_count):
+        places, numbers = chains[which]
+        entries = [(count, numbers)
+                   for count in {0, 1, places - 1, places + 1, 12, 13,
+                                 HIGHEST} - {places}]
+        for at in range(places):
+            for other in {0, 65_535, numbers[0], numbers[at] + 1,
+                          tasks[0][0]} - {numbers[at]}:
+                entries.append((places, list(numbers[:at]) + [other]
+                                + list(numbers[at + 1:])))
+        for entry in entries:
+            changed.append((task_count, tasks, chain_count,
+                            list(chains[:which]) + [entry]
+                            + list(chains[which + 1:]), gap, bounds))
+        for other in {0, bounds[which] - 1, bounds[which] + 1,
+                      bounds[which] ^ 2 ** 63, HIGHEST} - {bounds[which]}:
+            at = list(bounds)
+            at[which] = other
+            changed.append((task_count, tasks, chain_count, chains, gap, at))
+    # Tasks, chains and bounds in another turn, where that is another one.
+    turned = written_out(held)[3]
+    if task_count > 1:
+        changed.append((task_count, [tasks[1], tasks[0]] + list(tasks[2:]),
+                        chain_count, chains, gap, bounds))
+    if chain_count > 1 and turned[0] != turned[1]:
+        changed.append((task_count, tasks, chain_count,
+                        [chains[1], chains[0]] + list(chains[2:]), gap,
+                        bounds))
+    if chain_count > 1 and bounds[0] != bounds[1]:
+        changed.append((task_count, tasks, chain_count, chains, gap,
+                        [bounds[1], bounds[0]] + list(bounds[2:])))
+    return changed
+
+
+def small_held(rng, chain_count):
+    """A good schedule that literal walks can do, with bounds it keeps."""
+    if rng.random() < 0.5:
+        tasks, chains = phase_schedule(rng, chain_count, 4)
+    else:
+        tasks, chains = schedule_of_chains(
+            rng, [small_chain(rng, 30, 3) for _ in range(chain_count)])
+    gap = rng.choice([0, 0, 1, 2, rng.randint(1, 40)])
+    held = with_bounds(tasks, chains, gap, [HIGHEST] * chain_count)
+    latencies = judged(held)[1]
+    bounds = [rng.choice([one, one, one + 1, one + rng.randint(0, 9),
+                          2 ** 63, HIGHEST]) for one in latencies]
+    return with_other_junk(rng, with_bounds(tasks, chains, gap, bounds)), \
+        latencies
+
+
+def group_what_is_named(rng):
+    # Counts at the ends of their arrays: all entries count.
+    tasks = [(number, 2, 2, 0) for number in range(1, 33)]
+    chains = [list(range(1, 13)), list(range(12, 0, -1)), [32] * 12,
+              list(range(21, 33))]
+    # Twelve places that never wait: 2 + 24.
+    full = with_bounds(tasks, chains, 0, [26, 27, 28, 29])
+    helds = [(full, [26] * 4)]
+    helds += [(with_bounds(TASKS_A, [[1, 2], [2]], 1, [20, 12]), [20, 12])]
+    helds += [small_held(rng, 1 + turn % 4) for turn in range(24)]
+    other = with_bounds([(9, 10, 3, 5)], [[9]], 0, [13])
+    running = (1, ((9, 10, 3, 5),), 1, ((1, (9,)),), 0, (13,))
+    changes = 0
+    for held, latencies in helds:
+        form = written_out(held)
+        same(ref.named(held), form, "named")
+        after = (running, form)
+        same(ref.ask((running, None), held), (("ok", latencies), after),
+             "asked")
+        # What lies past a count does not matter, in no call.
+        for _ in range(12):
+            again = with_other_junk(rng, held)
+            same(ref.named(again), form, "past a count")
+            same(ref.make_state(again), ("ok", (form, None)), "past a count")
+            same(ref.ask((running, None), again), (("ok", latencies), after),
+                 "past a count")
+            same(ref.commit(after, again), (("ok",), (form, None)),
+                 "past a count")
+        # All else does.
+        for changed in single_changes(held):
+            changes += 1
+            if rng.random() < 0.5:
+                changed = with_other_junk(rng, changed)
+            same(alike(changed, held), False, "changed")
+            same(ref.named(changed) == form, False, "changed")
+            same(ref.commit(after, changed), (("refused", 23, 0), after),
+                 "changed")
+        same(ref.commit(after, other), (("refused", 23, 0), after), "other")
+    same(changes > 3_000, True, "many changes")
+    # The same numbers one after the other, counted in another way.
+    three = [(1, 2, 2, 0), (2, 2, 2, 0), (3, 2, 2, 0)]
+    ways = [[[1, 2, 3]], [[1, 2], [3]], [[1], [2, 3]], [[1], [2], [3]],
+            [[3], [1, 2]], [[1, 2], [3], [3]], [[1], [2], [3], [3]]]
+    ways = [with_bounds(three, chains, 0, [8] * len(chains))
+            for chains in ways]
+    # With the same in every entry, those past the count too.
+    ways += [(count, [(1, 2, 2, 0)] * 32, which, [(places, [1] * 12)] * 4, 0,
+              [26] * 4)
+             for count in (1, 2, 32, 33, 40, HIGHEST)
+             for which in (1, 3, 4, 5, 9, HIGHEST)
+             for places in (1, 11, 12, 13, HIGHEST)]
+    for first, second in itertools.product(ways, repeat=2):
+        same(ref.named(first) == ref.named(second), first is second,
+             "counted in another way")
+    for first, second in itertools.product(ways[:7], repeat=2):
+        _answer, asked = ref.ask((running, None), first)
+        same(ref.commit(asked, second)[0],
+             ("ok",) if first is second else ("refused", 23, 0),
+             "counted in another way")
+    for count, which, places in itertools.product(
+            (1, 32, 33, 40, HIGHEST), (1, 4, 5, 9, HIGHEST),
+            (1, 12, 13, HIGHEST)):
+        # Tasks in the rising numbers of a good schedule, all 32 of them.
+        held = (count, tasks, which, [(places, [1] * 12)] * 4, 0, [26] * 4)
+        good = count <= 32 and which <= 4 and places <= 12
+        expected = ("ok", [2 + 2 * places] * which) if good \
+            else ("refused", 8, 0)
+        check_ask_and_make(held, expected, [(running, None)],
+                           "counts %d, %d, %d" % (count, which, places))
+        asked = ref.ask((running, None),
+                        (32, tasks, 4, [(12, [1] * 12)] * 4, 0, [26] * 4))[1]
+        same(ref.commit(asked, held)[0],
+             ("ok",) if (count, which, places) == (32, 4, 12)
+             else ("refused", 23, 0),
+             "counts %d, %d, %d" % (count, which, places))
+    # Good ones are the same where their files and bounds are.
+    pool = []
+    for _ in range(40):
+        tasks, chains = random_schedule(rng)
+        gap = rng.choice([0, 1, 1_000])
+        bounds = [rng.choice([0, 1, HIGHEST]) for _ in chains]
+        pool.append((tasks, chains, gap, bounds))
+        pool.append((tasks, chains, rng.choice([0, 1, 1_000]), bounds))
+        pool.append((tasks, chains, gap,
+                     [rng.choice([0, 1, HIGHEST]) for _ in chains]))
+        pool.append((tasks, rng.sample(chains, len(chains)), gap, bounds))
+    keys = [(file_of(*one[:3]), one[3]) for one in pool]
+    helds = [with_other_junk(rng, with_bounds(*one)) for one in pool]
+    forms = [ref.named(held) for held in helds]
+    equal = 0
+    for first, second in itertools.combinations(range(len(pool)), 2):
+        expected = keys[first] == keys[second]
+        equal += expected
+        same(forms[first] == forms[second], expected, "files")
+        same(alike(helds[first], helds[second]), expected, "files, alike")
+    same(equal > 20, True, "some are the same")
+
+
+def group_asks(rng):
+    """Latencies by literal walks, and bounds at, below and above them."""
+    met = {}
+    running = states_by_hand()[0][0]
+    for turn in range(60):
+        count = 1 + turn % 4
+        held, latencies = small_held(rng, count)
+        for way in itertools.product((-1, 0, 1), repeat=count):
+            bounds = [one + step for one, step in zip(latencies, way)]
+            bounds += [any_number(rng) for _ in range(4 - count)]
+            expected = ("refused", 21, 0) if -1 in way else ("ok", latencies)
+            check_ask_and_make((*held[:5], bounds), expected,
+                               [(running, None)], "bounds %r" % bounds)
+        # A single bound too low, in each chain by itself, and all of it.
+        for which in range(count):
+            for low in (0, rng.randrange(latencies[which]),
+                        latencies[which] - 1):
+                bounds = [HIGHEST] * 4
+                bounds[which] = low
+                check_ask_and_make((*held[:5], bounds), ("refused", 21, 0),
+                                   [(running, None)], "bounds %r" % bounds)
+        for bound in WIDE:
+            check_ask_and_make((*held[:5], [bound] * 4), ("ok", latencies),
+                               [(running, None)], "bound %d" % bound)
+        # Each chain by itself, and values that travel.
+        for which, latency in enumerate(latencies):
+            chain = places_of(held, which)
+            same(travelled_greatest(chain, held[4]), latency, "travelled")
+        for kind, holds in (
+                ("the first is the largest", latencies[0] == max(latencies)),
+                ("the last is the largest", count > 1
+                 and latencies[-1] == max(latencies)),
+                ("all are others", len(set(latencies)) == count > 2)):
+            met[kind] = met.get(kind, 0) + holds
+    for kind, number in met.items():
+        same(number > 5, True, "met: %s, %d" % (kind, number))
+
+
+def group_asks_large(rng):
+    """Two places and any number of equal periods, without a walk."""
+    running = states_by_hand()[0][0]
+    # The longest latency: 12 places that read a tick too early.
+    million = 1_000_000
+    far = [(1 + i, million, 4 * million, 999 * i) for i in range(12)]
+    held = with_bounds(far, [list(range(1, 13)), [1] * 12], 1_000,
+                       [60_010_989, 60_000_000])
+    # Each link has the gap and waits a period less a tick: 1 + 48 million
+    # and 11 times 1,000 + 999,999.  With one task it is 11 whole periods.
+    check_ask_and_make(held, ("ok", [60_010_989, 60_000_000]),
+                       [(running, None)], "longest")
+    for bounds in ([60_010_988, HIGHEST], [HIGHEST, 59_999_999],
+                   [2 ** 32, 0]):
+        check_ask_and_make((*held[:5], bounds + [0, 0]),
+                           ("refused", 21, 0), [(running, None)], "longest")
+
+    def greatest(chain, gap):
+        if len({T for T, _D, _F in chain}) == 1:
+            return greatest_of_equals(chain, gap)
+        return greatest_of_pair(chain, gap)
+
+    met = {}
+    for _turn in range(250):
+        gap = wide_gap(rng)
+        times = [rng.randint(1, 12), rng.randint(1, 12)]
+        base = rng.choice([1, 1_000_000 // max(times),
+                           rng.randint(1, 1_000_000 // max(times))])
+        T, next_T = [base * one for one in times]
+        tasks = [(number, T if number < 13 else next_T,
+                  rng.choice([1, 4_000_000, rng.randint(1, 4_000_000)]),
+                  rng.choice([0, 1_000_000, rng.randint(0, 1_000_000)]))
+                 for number in (11, 12, 13, 65_535)]
+        chains = []
+        for _ in range(rng.randint(1, 4)):
+            fill = rng.choice([[11, 12], [13, 65_535]])
+            if rng.random() < 0.5:
+                chains.append([rng.choice(fill)
+                               for _ in range(rng.randint(1, 12))])
+            else:
+                chains.append(rng.sample([11, 12, 13, 65_535], 2))
+        held = with_bounds(tasks, chains, gap, [HIGHEST] * len(chains))
+        expected = judged(held, greatest)
+        check_ask_and_make(held, expected, [(running, None)], "%r" % (held,))
+        latencies = expected[1]
+        bounds = [one - rng.choice([0, 0, 0, 1]) for one in latencies]
+        held = with_other_junk(rng, with_bounds(tasks, chains, gap, bounds))
+        expected = judged(held, greatest)
+        check_ask_and_make(held, expected, [(running, None)], "%r" % (held,))
+        met[expected[0]] = met.get(expected[0], 0) + 1
+    for kind in ("ok", "refused"):
+        same(met.get(kind, 0) > 50, True, "often met: " + kind)
+
+
+def group_all_short_lists(_rng):
+    """Every list of up to 4 calls, and what runs from its letters alone.
+
+    A small letter asks, the large one commits.  Of p, q and r each is
+    accepted; x is above its bound and y is faulty.  A commit P is refused
+    unless p was asked for, and since then no other and no P: any other
+    commit in between is refused.
+    """
+    helds = {
+        "p": with_bounds(TASKS_A, [[1, 2], [2]], 0, [18, 12]),
+        "q": with_bounds(TASKS_A, [[1, 2], [2]], 0, [18, 13]),
+        "r": with_bounds(TASKS_A, [[1, 2], [2]], 1, [20, 12]),
+        "x": with_bounds(TASKS_A, [[1, 2], [2]], 1, [20, 11]),
+        "y": with_bounds(TASKS_A, [[1, 2], [2, 3]], 0, [18, 12]),
+    }
+    forms = {letter: written_out(held) for letter, held in helds.items()}
+    answers = {"p": ("ok", [18, 12]), "q": ("ok", [18, 12]),
+               "r": ("ok", [20, 12]), "x": ("refused", 21, 0),
+               "y": ("refused", 6, 2)}
+    first = "q"
+
+    def run_and_proposal(text):
+        ends, stands = [(0, first)], [None]
+        for letter in "pqr":
+            since = "%s[^pqr%s]*" % (letter, letter.upper())
+            ends += [(found.end(), letter)
+                     for found in re.finditer(since + letter.upper(), text)]
+            if re.search(since + "$", text):
+                stands.append(letter)
+        return max(ends)[1], stands[-1]
+
+    made = ref.make_state(helds[first])
+    same(made, ("ok", (forms[first], None)), "made")
+    before = {"": made[1]}
+    for length in range(1, 5):
+        after = {}
+        for text, state in before.items():
+            for letter in "pqrxyPQRXY":
+                held = helds[letter.lower()]
+                longer = text + letter
+                _runs, stood = run_and_proposal(text)
+                if letter.islower():
+                    expected = answers[letter]
+                    found = ref.ask(state, held)
+                else:
+                    expected = ("refused", 22, 0) if stood is None \
+                        else ("ok",) if stood == letter.lower() \
+                        else ("refused", 23, 0)
+                    found = ref.commit(state, held)
+                runs, stands = run_and_proposal(longer)
+                same(found, (expected, (forms[runs],
+                                        forms[stands] if stands else None)),
+                     longer)
+                after[longer] = found[1]
+        before = after
+    same(len(before), 10 ** 4, "lists of 4 calls")
+
+
+def state_of_log(first, log):
+    """What runs and what is proposed, from the calls so far alone.
+
+    The running one is that of the last commit not refused, or the first.
+    The proposal is that of the last ask not refused since then.
+    """
+    commits = [at for at, (call, _held, was_refused) in enumerate(log)
+               if call == "commit" and not was_refused]
+    since = commits[-1] + 1 if commits else 0
+    asks = [held for call, held, was_refused in log[since:]
+            if call == "ask" and not was_refused]
+    return log[commits[-1]][1] if commits else first, \
+        asks[-1] if asks else None
+
+
+def pool_of_helds(rng):
+    """Schedules with bounds that are often near to each other."""
+    pool = []
+    for _ in range(rng.randint(1, 3)):
+        held, latencies = small_held(rng, rng.randint(1, 4))
+        pool += [held] * 2
+        task_count, tasks, chain_count, chains, gap, bounds = held
+        # Other bounds, some of them too low.
+        other = list(bounds)
+        which = rng.randrange(chain_count)
+        other[which] = rng.choice([latencies[which], latencies[which] + 1,
+                                   latencies[which] - 1, HIGHEST])
+        pool.append((*held[:5], other))
+        # Another gap, which often makes a latency longer than its bound.
+        pool.append((task_count, tasks, chain_count, chains,
+                     rng.choice([0, 1, gap + 1, 1_001]), bounds))
+        # Fewer or more chains.
+        pool.append((task_count, tasks, rng.randint(0, 5), chains, gap,
+                     bounds))
+        # A fault, or another value.
+        pool.append(rng.choice(single_changes(held)))
+    # No literal walk is to take long.
+    pool = [held for held in pool
+            if listed_fault(*held[:5]) is not None
+            or (held[4] <= 60 and all(
+                literal_hyperperiod(places_of(held, which)) <= 60
+                and all(D <= 60 and F <= 120 for _T, D, F
+                        in places_of(held, which))
+                for which in range(held[2])))]
+    pool.append(with_bounds([(1, 999_983, 1, 0), (2, 999_979, 1, 0)],
+                            [[1], [2, 1]], 0, [HIGHEST, HIGHEST]))
+    return pool
+
+
+def group_lists_of_calls(rng):
+    """Random lists of calls, and the state from a log of them alone."""
+    met = {}
+    for turn in range(150):
+        pool = pool_of_helds(rng)
+        first = rng.choice([held for held in pool
+                            if judged(held)[0] == "ok"])
+        made = ref.make_state(first)
+        same(made, ("ok", (written_out(first), None)), "made")
+        state = made[1]
+        log = []
+        for _ in range(rng.choice([5, 20, 40])):
+            running, proposal = state_of_log(first, log)
+            if proposal is not None and rng.random() < 0.25:
+                held = proposal
+            else:
+                held = rng.choice(pool)
+            if rng.random() < 0.5:
+                held = with_other_junk(rng, held)
+            if rng.random() < 0.5:
+                call = "ask"
+                expected = judged(held)
+                found, after = ref.ask(state, held)
+            else:
+                call = "commit"
+                expected = ("refused", 22, 0) if proposal is None \
+                    else ("ok",) if alike(proposal, held) \
+                    else ("refused", 23, 0)
+                found, after = ref.commit(state, held)
+            what = "list %d, call %d, %s" % (turn, len(log) + 1, call)
+            same(found, expected, what)
+            was_refused = expected[0] == "refused"
+            if was_refused:
+                same(after, state, what + ", refused")
+            log.append((call, held, was_refused))
+            kind = (call, expected[1] if was_refused else "ok")
+            met[kind] = met.get(kind, 0) + 1
+            running, proposal = state_of_log(first, log)
+            same(after, (written_out(running),
+                         None if proposal is None else written_out(proposal)),
+                 what)
+            # What runs meets its own bounds, and so would the proposal.
+            for one in after:
+                if one is not None:
+                    same(judged(one)[0], "ok", what + ", bounds")
+            state = after
+    for kind in [("ask", "ok"), ("ask", 8), ("ask", 5), ("ask", 6),
+                 ("ask", 7), ("ask", 21), ("commit", "ok"), ("commit", 22),
+                 ("commit", 23)]:
+        same(met.get(kind, 0) > 20, True, "often met: %s %s" % kind)
+
+
 GROUPS = [
     ("survey example A", group_survey_a),
     ("survey examples B to E", group_survey_b_to_e),
@@ -5509,6 +6350,13 @@ GROUPS = [
     ("partitions up to the first late one", group_late_partitions),
     ("a phase for a bound, large values", group_phases_large),
     ("refusals of a phase for a bound", group_phase_refusals),
+    ("running and proposed schedules by hand", group_states_by_hand),
+    ("what is named of a schedule", group_what_is_named),
+    ("asks by literal walks", group_asks),
+    ("asks, large values", group_asks_large),
+    ("refusals of ask, make and commit", group_state_refusals),
+    ("all short lists of asks and commits", group_all_short_lists),
+    ("lists of asks and commits by a log", group_lists_of_calls),
 ]
 
 
