@@ -62,9 +62,17 @@ use Rattle.schedule.specs.declared.NumberedTask.{NumberedTask}
 use Rattle.schedule.specs.declared.Schedule.{Schedule}
 use Rattle.schedule.specs.Schedules.{taskRule, known, taskNumbered, routeNumbered, scheduleOf}
 use Rattle.schedule_checks.specs.Checks as schedule-checks
+use Rattle.refusal.specs.declared.Refusal.{Refusal}
 use Rattle.phase.specs.declared.Phase.{Phase}
 use Rattle.phase.specs.declared.Phase.the-variants as phases
 use Rattle.phase.specs.Phases.{phaseAfter, phaseFrom}
+use Rattle.bounded.specs.declared.Bounded.{Bounded}
+use Rattle.bounded.specs.Bounded.{cleared, pairwise, sameTask, sameRoute, sameSchedule, sameBounded}
+use Rattle.promises.specs.Promises.{hyperRefusal, checksOf, judgedOf}
+use Rattle.instrument.specs.declared.State.{State}
+use Rattle.instrument.specs.declared.Asked.{Asked}
+use Rattle.instrument.specs.declared.Committed.{Committed}
+use Rattle.instrument.specs.Instrument.{makeOf, askOf, commitRefusal, commitOf}
 
 -- ---- the chains
 
@@ -216,6 +224,33 @@ phaseIs (phases.Of f) = 0 ∷ f ∷ []
 phaseIs phases.Nothing = 1 ∷ []
 phaseIs (phases.Refused r) = r .number ∷ r .place ∷ []
 
+-- Chain A's tasks with chains (1, 2) and (2), a gap and bounds, of which the last two are past the chains.
+abbrev bounded : ℕ → ℕ → ℕ → ℕ → Bounded
+bounded g x y z = cleared (record { schedule = scheduleOf (numbered 1 4 4 0 ∷ numbered 2 6 6 0 ∷ []) ((1 ∷ 2 ∷ []) ∷ (2 ∷ []) ∷ []) g; bounds = x ∷ y ∷ z ∷ 7 ∷ [] })
+
+-- The bounds of what runs, whether a proposal stands, and its bounds.
+abbrev boundsIn : State → List ℕ
+boundsIn s = s .running .bounds ++ (s .firmware .stands ∷ s .firmware .proposal .bounds)
+
+abbrev refusalIs : Refusal → List ℕ
+refusalIs r = r .number ∷ r .place ∷ []
+
+-- Order 10: a state is made, two asks, of which the second is refused, then a commit that names another gap, and one that names the proposal.
+abbrev made : State
+made = makeOf (bounded 0 18 12 9) .state
+
+abbrev first : Asked
+first = askOf made (bounded 1 20 12 9)
+
+abbrev second : Asked
+second = askOf (first .state) (bounded 1 19 12 9)
+
+abbrev other : Committed
+other = commitOf (second .state) (bounded 0 20 12 9)
+
+abbrev committed : Committed
+committed = commitOf (other .state) (bounded 1 20 12 8)
+
 -- ---- the list
 
 unfoldable pub computed : List (List ℕ)
@@ -264,6 +299,10 @@ computed =
     ∷ phaseIs (phaseFrom (scheduleA 0 0) 1 2 18) ∷ phaseIs (phaseFrom (scheduleA 0 0) 1 2 17) ∷ phaseIs (phaseFrom (scheduleA 9 5) 1 2 23) ∷ phaseIs (phaseFrom (scheduleA 9 5) 1 2 22)
     ∷ phaseIs (phaseFrom twice 1 3 43) ∷ phaseIs (phaseFrom twice 1 3 42) ∷ phaseIs (phaseFrom twice 1 3 33) ∷ phaseIs (phaseFrom twice 1 3 32)
     ∷ phaseIs (phaseFrom (scheduleA 0 0) 1 3 18) ∷ phaseIs (phaseFrom (scheduleA 0 0) 2 3 18) ∷ phaseIs (phaseFrom long 1 1 0) ∷ phaseIs (phaseFrom long 1 3 0)
+    -- order 10 of document 02: making with the greatest latencies as bounds, and one less; each of those calls, what it leaves, and a commit where no proposal stands
+    ∷ refusalIs (makeOf (bounded 0 18 12 9) .refusal) ∷ boundsIn made ∷ refusalIs (makeOf (bounded 0 17 12 9) .refusal) ∷ boundsIn (makeOf (bounded 0 17 12 9) .state)
+    ∷ refusalIs (first .refusal) ∷ first .latencies ∷ boundsIn (first .state) ∷ refusalIs (second .refusal) ∷ second .latencies ∷ boundsIn (second .state)
+    ∷ refusalIs (other .refusal) ∷ boundsIn (other .state) ∷ refusalIs (committed .refusal) ∷ boundsIn (committed .state) ∷ refusalIs (commitOf (committed .state) (bounded 1 20 12 9) .refusal)
     -- D
     ∷ warm D ∷ ticksOf (delayOf D 90) ∷ ticksOf (delayOf D 89)
     -- E: no place, 13 places, H at its limit and above
@@ -271,7 +310,7 @@ computed =
     ∷ verdictIs (verdictOf (E 768)) ∷ verdictIs (verdictOf (E 769))
     ∷ []
 
--- What the documents say, in the same order; the warm-ups of chain C with a gap follow from order 5, chain A with gap 7 from orders 5 and 6, the histograms of A and B from order 7, the chains of seeds from order 8 and the phases from order 9, which do not name them.
+-- What the documents say, in the same order; the warm-ups of chain C with a gap follow from order 5, chain A with gap 7 from orders 5 and 6, the histograms of A and B from order 7, the chains of seeds from order 8, the phases from order 9 and the state's bounds from order 10, which do not name them.
 abbrev pub said : List (List ℕ)
 said =
     (0 ∷ 12 ∷ 0 ∷ 0 ∷ 1 ∷ [])
@@ -303,11 +342,14 @@ said =
     ∷ (0 ∷ 0 ∷ []) ∷ (1 ∷ []) ∷ (0 ∷ 0 ∷ []) ∷ (1 ∷ [])
     ∷ (0 ∷ 0 ∷ []) ∷ (0 ∷ 5 ∷ []) ∷ (0 ∷ 5 ∷ []) ∷ (1 ∷ [])
     ∷ (19 ∷ 0 ∷ []) ∷ (16 ∷ 0 ∷ []) ∷ (20 ∷ 0 ∷ []) ∷ (19 ∷ 0 ∷ [])
+    ∷ (0 ∷ 0 ∷ []) ∷ (18 ∷ 12 ∷ 0 ∷ 0 ∷ 0 ∷ 0 ∷ 0 ∷ 0 ∷ 0 ∷ []) ∷ (21 ∷ 0 ∷ []) ∷ (0 ∷ 0 ∷ 0 ∷ 0 ∷ 0 ∷ 0 ∷ 0 ∷ 0 ∷ 0 ∷ [])
+    ∷ (0 ∷ 0 ∷ []) ∷ (20 ∷ 12 ∷ 0 ∷ 0 ∷ []) ∷ (18 ∷ 12 ∷ 0 ∷ 0 ∷ 1 ∷ 20 ∷ 12 ∷ 0 ∷ 0 ∷ []) ∷ (21 ∷ 0 ∷ []) ∷ (0 ∷ 0 ∷ 0 ∷ 0 ∷ []) ∷ (18 ∷ 12 ∷ 0 ∷ 0 ∷ 1 ∷ 20 ∷ 12 ∷ 0 ∷ 0 ∷ [])
+    ∷ (23 ∷ 0 ∷ []) ∷ (18 ∷ 12 ∷ 0 ∷ 0 ∷ 1 ∷ 20 ∷ 12 ∷ 0 ∷ 0 ∷ []) ∷ (0 ∷ 0 ∷ []) ∷ (20 ∷ 12 ∷ 0 ∷ 0 ∷ 0 ∷ 0 ∷ 0 ∷ 0 ∷ 0 ∷ []) ∷ (22 ∷ 0 ∷ [])
     ∷ (0 ∷ 10 ∷ 90 ∷ 9 ∷ 0 ∷ []) ∷ (0 ∷ 16 ∷ []) ∷ (12 ∷ 0 ∷ [])
     ∷ (8 ∷ 0 ∷ []) ∷ (8 ∷ 0 ∷ [])
     ∷ (0 ∷ 60000000 ∷ []) ∷ (7 ∷ 0 ∷ [])
     ∷ []
 
 pub survey : computed ≡ said
-unfolding computed withinLimits earliestFrom latestOver forwardLink backwardLink euclid gcdOf lcmOf forwardBy onLatest backwardBy hyperFrom firstFault hyperVerdict afterGap verdictFor leastFrom warmLast warmAt warmTick delayAt firstAged ageAt entries warmUpAfter spanAfter anchors spaced wellFormed read.reading read.delayAt read.lastAt greatest lowTo low total everyAbove longestRun ticks delaySum doubledArea exceedance greatestOf lowOf meanOf exceedanceOf rangeFrom keep fresh dropRepeats startOf endOf keeps anchorsFrom judged madeAfter writtenAfter spanOf misses missesIn largest mostMisses earliestJob windowsAfter padded sections.partsFrom sections.risesTo sum sections.sectionsAfter greatestLatency histogramOf countsOf load.drawOf load.periodOf load.drawnTask load.tasksFrom load.loadOf flatOf taskRule known taskNumbered routeNumbered schedule-checks.countRight schedule-checks.placesRight schedule-checks.countsRight schedule-checks.firstFault schedule-checks.firstUnknown schedule-checks.unknownPlace schedule-checks.afterGap schedule-checks.faultOf schedule-checks.choiceOf schedule-checks.afterChoice phaseAfter
+unfolding computed withinLimits earliestFrom latestOver forwardLink backwardLink euclid gcdOf lcmOf forwardBy onLatest backwardBy hyperFrom firstFault hyperVerdict afterGap verdictFor leastFrom warmLast warmAt warmTick delayAt firstAged ageAt entries warmUpAfter spanAfter anchors spaced wellFormed read.reading read.delayAt read.lastAt greatest lowTo low total everyAbove longestRun ticks delaySum doubledArea exceedance greatestOf lowOf meanOf exceedanceOf rangeFrom keep fresh dropRepeats startOf endOf keeps anchorsFrom judged madeAfter writtenAfter spanOf misses missesIn largest mostMisses earliestJob windowsAfter padded sections.partsFrom sections.risesTo sum sections.sectionsAfter greatestLatency histogramOf countsOf load.drawOf load.periodOf load.drawnTask load.tasksFrom load.loadOf flatOf taskRule known taskNumbered routeNumbered schedule-checks.countRight schedule-checks.placesRight schedule-checks.countsRight schedule-checks.firstFault schedule-checks.firstUnknown schedule-checks.unknownPlace schedule-checks.afterGap schedule-checks.faultOf schedule-checks.choiceOf schedule-checks.afterChoice phaseAfter pairwise sameTask sameRoute sameSchedule sameBounded hyperRefusal checksOf judgedOf makeOf askOf commitRefusal commitOf
 survey = refl
