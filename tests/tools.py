@@ -39,7 +39,7 @@ import inputs
 import meshorchard_reference as reference
 import proved
 import report as reports
-from meshorchard import Broken, Chain, Refused, Schedule, Table, analysis, calls, command, words
+from meshorchard import Broken, Chain, Refused, Schedule, State, Table, analysis, calls, command, structs, words
 from meshorchard import page as pages
 from meshorchard import streams as streams_of
 from meshorchard.lent import UNWRITTEN
@@ -742,7 +742,7 @@ def wrong_use_cases(folder):
     some += [(["histogram", LASER, *words], "--width") for words in ([], ["5ms"], ["--width"])] + [(["histogram", "--width", "5ms"], "FILE"), (["histogram", LASER, "--width", "5ms", "-o"], "-o")]
     # A width with more bars than are shown; the picture is not made either.
     some += [(["histogram", LASER, "--width", "1", *more], "105,000 bars") for more in ([], ["-o", out], ["-o", "-"])]
-    some += [(["explain"], "N")] + [(["explain", word], word) for word in ("0", "21", "18446744073709551616", "x", "-1", "1.5")] + [(["explain", "5", "x"], "x")]
+    some += [(["explain"], "N")] + [(["explain", word], word) for word in ("0", "24", "18446744073709551616", "x", "-1", "1.5")] + [(["explain", "5", "x"], "x")]
     some += [(["phase", LASER], "TASK"), (["phase", LASER, "10"], "BOUND"), (["phase", LASER, "10", "5", "7"], "7"), (["phase", LASER, "10", "129.5", "ms"], "129.5"), (["phase", LASER, "10", "5ms", "-o"], "-o")]
     for bad in ("-1", "x", "1.5", "18446744073709551616", "5ns", "1,0", "", "١", "1e3", "0.0000001s"):
         wrong = (["delay", LASER, bad], ["age", LASER, bad, "1"], ["pair", LASER, bad, "1", "1"], ["windows", LASER, bad, "5"], ["page", LASER, "-o", out, "--bound", bad])
@@ -759,7 +759,7 @@ def like_processes(folder, files):
     """./meshorchard gives what the calls in this process give."""
     out = os.path.join(folder, "out")
     some = [arguments_for(word, path, out) for path in files for word in ON_FILES if word not in ("curve", "page")]
-    some += [["explain", "5", "18"], ["explain", "20"], ["explain", "21"], ["delay", LASER, "95ms"], ["delay", LASER, "x"], []]
+    some += [["explain", "5", "18"], ["explain", "23"], ["explain", "24"], ["delay", LASER, "95ms"], ["delay", LASER, "x"], []]
     some += [["histogram", LASER, "--width", width, *more] for width, more in (("0", []), ("1", []), ("20 ms", ["--chain", "1"]), ("20ms", ["-o", "-"]), ("0", ["-o", "-"]))]
     some += [["phase", LASER, *words] for words in (["10", "130 ms"], ["10", "129.5ms", "-o", "-"], ["20", "1ms"], ["20", "1ms", "-o", "-"], ["20", "1ms", "-o", out], ["30", "130ms"], ["40", "130ms", "--chain", "1"])]
     for arguments, answer in zip(some, ran_all([(arguments,) for arguments in some])):
@@ -787,7 +787,7 @@ def commands(r, factor):
         yield from bar_cases()
         for jobs in (0, 101):
             yield f"page with windows of {jobs} jobs, which are refused with 15", called("page", LASER, "-o", os.path.join(folder, "out"), "--jobs", jobs).status, 1
-        for refusal in range(1, 21):
+        for refusal in range(1, 24):
             answer = called("explain", refusal)
             yield f"explain {refusal}", (answer.status, answer.text().startswith(f"{refusal}: "), answer.text().count("\n") >= 2, answer.err), (0, True, True, "")
         yield from like_processes(folder, [LASER, os.path.join(folder, "long.schedule"), os.path.join(folder, "refused-5.schedule"), os.path.join(folder, "missing")])
@@ -1039,6 +1039,7 @@ EXPLAINED = {
     10: ("starts and the latencies differ in length",), 11: ("too little room", "698", "1,024"), 12: ("too early", "warm-up tick"), 13: ("too late", "1,000,000,000,000"),
     14: ("not well-formed", "1,000,000,000", "60,011,000"), 15: ("window is outside", "1 to 100"), 16: ("no chain of that number", "from 1"),
     17: ("do not part the chain", "1 to the number of places less 1"), 18: ("width is 0", "1 tick or more"), 19: ("not in the chain", "fills a place"), 20: ("period is too long", "10,000 ticks", "10 ms"),
+    21: ("above its bound", "no chain"), 22: ("no proposal", "asked for first"), 23: ("not the proposal", "the schedule and the bounds"),
 }
 # What it must say of a place, and what it must not.
 PLACES = {
@@ -1254,6 +1255,24 @@ TABLE_A = Table([0, 8], [18, 16], 2, 12)
 # The greatest latency of chain 1 at the phases 0 to 9 of task 3 is 43, but 33 at the phases 5, 6 and 7.
 THREES = Schedule.of([(3, 10, 3, 7), (9, 20, 5, 0)], [[3, 9, 3]])
 FILE_A = b"".join(inputs.records([(1, 4, 4, 0), (2, 6, 6, 0)], [[1, 2], [2]], 0))
+
+
+def bounded(schedule, *bounds):
+    """A schedule with bounds as a struct, by hand, with zeros past the counts."""
+    found = structs.Bounded()
+    found.schedule.count, found.schedule.chains, found.schedule.gap = schedule.count, schedule.chain_count, schedule.gap
+    for entry, (number, *values) in zip(found.schedule.tasks, schedule.task_list()):
+        entry.number, entry.task = number, structs.Task(*values)
+    for route, numbers in zip(found.schedule.routes, schedule.chain_list()):
+        route.count, route.places[:len(numbers)] = len(numbers), numbers
+    found.bounds[:len(bounds)] = bounds
+    return found
+
+
+# The same schedule with bounds, its greatest latencies, and with a gap of 1 and those that it has then; and states of them.
+BOUNDED_A, BOUNDED_GAP = bounded(SCHEDULE_A, 18, 12), bounded(dataclasses.replace(SCHEDULE_A, gap=1), 20, 12)
+RUNNING_A, RUNNING_GAP = State(BOUNDED_A), State(BOUNDED_GAP)
+PROPOSED = State(BOUNDED_A, structs.Side(BOUNDED_GAP, 1))
 # Each call of the header with chain A of the specification: its arguments, and what README, header or reference say that it answers.
 ANSWERS = {
     "read_table": ((TABLE_A, 7), 11), "greatest": ((TABLE_A,), 18), "low": ((TABLE_A,), 10), "mean": ((TABLE_A,), (336, 24)), "throughput": ((TABLE_A,), (2, 12)),
@@ -1263,6 +1282,7 @@ ANSWERS = {
     "windows": ((CHAIN_A, 13, 3), reference.windows([(4, 4, 0), (6, 6, 0)], 0, 13, 3)[1:]), "read_file": ((FILE_A,), ([1, 4, 4, 0, 2, 6, 6, 0, *[0] * 120], 2, [1, 2, *[0] * 10, 2, *[0] * 35], [2, 1, 0, 0], 2, 0, (None, None, None))),
     "sections": ((CHAIN_A, [1]), ((8, 12), 20)), "write_file": ((SCHEDULE_A, bytearray(698)), len(FILE_A)), "chain_of_schedule": ((SCHEDULE_A, 1), ([4, 4, 0, 6, 6, 0], 2, 0)),
     "bookings": ((SCHEDULE_A, 1, 2, 0), reference.bookings([(4, 4, 0), (6, 6, 0)], 0, [(6, 6, 0)], 0, 0)[1:]),
+    "bounded_schedule": ((SCHEDULE_A, [18, 12]), BOUNDED_A), "make_state": ((BOUNDED_A,), RUNNING_A), "ask": ((RUNNING_A, BOUNDED_GAP), (PROPOSED, (20, 12))), "commit": ((PROPOSED, BOUNDED_GAP), RUNNING_GAP),
     "smallest_phase": ((THREES, 1, 3, 33), 5), "report": ((FILE_A, bytearray(92000)), len(reference.report(FILE_A))),
     "load": ((0, 3), ([10000, 10000, 8591, 10000, 10000, 7183, 40000, 40000, 26767], 3, 0)),
 }
@@ -1275,6 +1295,7 @@ REFUSALS = {
     13: (calls.delay, (CHAIN_A, 10**12 + 1), 0), 14: (calls.greatest, (dataclasses.replace(TABLE_A, hyperperiod=0),), 0), 15: (calls.windows, (CHAIN_A, 5, 101), 0),
     16: (calls.chain_of_schedule, (SCHEDULE_A, 3), 0), 17: (calls.sections, (CHAIN_A, [1, 1]), 0), 18: (calls.histogram, (TABLE_A, 0, array("Q", [7])), 0),
     19: (calls.smallest_phase, (SCHEDULE_A, 2, 1, 18), 0), 20: (calls.smallest_phase, (Schedule.of([(1, 10001, 4, 0)], [[1]]), 1, 1, 10**6), 0),
+    21: (calls.ask, (RUNNING_A, bounded(SCHEDULE_A, 18, 11)), 0), 22: (calls.commit, (RUNNING_A, BOUNDED_A), 0), 23: (calls.commit, (PROPOSED, BOUNDED_A), 0),
     5: (calls.check, (Chain.of([(4, 4, 0), (0, 6, 0)]),), 2), 6: (calls.write_file, (Schedule.of([(1, 4, 4, 0)], [[1, 1, 9]]), bytearray(698)), 3),
     1: (calls.read_file, (FILE_A[:-1],), len(FILE_A) - 4), 2: (calls.read_file, (b"\3\0\1\0",), 0), 3: (calls.read_file, (b"\4\0\5\0",), 0),
     4: (calls.read_file, (FILE_A + b"x",), len(FILE_A)),
@@ -1290,7 +1311,7 @@ def declared_cases():
     """Every call of the header is a typed function with the answer that it should have."""
     with open(os.path.join(TOP, "include", "meshorchard.h"), encoding="utf-8") as header:
         names = re.findall(r"^\w+ mo_(\w+)\(", re.sub(r"/\*.*?\*/", "", header.read(), flags=re.DOTALL), re.MULTILINE)
-    assert len(names) == len(set(names)) == len(ANSWERS) == 21, names
+    assert len(names) == len(set(names)) == len(ANSWERS) == 25, names
     for name in names:
         function = getattr(calls, name, None)
         typed = callable(function) and all(each.annotation is not each.empty for each in inspect.signature(function).parameters.values())
@@ -1308,6 +1329,7 @@ def declared_cases():
         yield f"calls.histogram of width {width} and {length} counts", ("ok", list(counts), rest), reference.histogram(*shape(TABLE_A), width, length)
     for bound, right in ((0, None), (32, None), (33, 5), (42, 5), (43, 0), (2**64 - 1, 0)):
         yield f"calls.smallest_phase for a bound of {bound}", calls.smallest_phase(THREES, 1, 3, bound), right
+    yield "the proposal of a state", (RUNNING_A.proposal, PROPOSED.proposal), (None, BOUNDED_GAP)
     for seed, places in ((0, 1), (1, 2), (2**64 - 1, 12), (2**63, 11), (0xDEADBEEF, 4)):
         chain, right = calls.load(seed, places), Chain.of(reference.load(seed, places)[1])
         yield f"calls.load of seed {seed} and {places} places, as a chain", (chain, proved.answered(calls.check, chain)), (right, ("ok", max(right.tasks[::3])))
@@ -1322,7 +1344,7 @@ def refusal_cases():
             words = refused.words
             found = refused.number, refused.place, isinstance(words, str) and len(words) > 20, words in str(refused), str(refusal) in str(refused)
         yield f"refusal {refusal} of calls.{call.__name__}", found, (refusal, place, True, True, True)
-    yield "a refusal for each number of the header", sorted(REFUSALS), list(range(1, 21))
+    yield "a refusal for each number of the header", sorted(REFUSALS), list(range(1, 24))
     for table, width, refusal in ((TABLE_A, 0, 18), (dataclasses.replace(TABLE_A, anchors=3), 0, 14), (dataclasses.replace(TABLE_A, anchors=3), 5, 14)):
         counts = array("Q", [7, 8, 9])
         yield f"a histogram that is refused with {refusal}, and its list", (proved.answered(calls.histogram, table, width, counts), list(counts)), (("refused", refusal, 0), [7, 8, 9])
@@ -1338,6 +1360,7 @@ def beyond():
             (calls.sections, CHAIN_A, [value]), (calls.sections, CHAIN_A, [1, value]), (calls.load, value, 3), (calls.load, 5, value),
             (calls.read_table, TABLE_A, value), (calls.exceedance, TABLE_A, value), (calls.histogram, TABLE_A, value, array("Q", bytes(8))),
             (calls.make_table, CHAIN_A, value, array("Q", bytes(8)), array("Q", bytes(8))), (calls.chain_of_schedule, SCHEDULE_A, value),
+            (calls.bounded_schedule, SCHEDULE_A, [18, value]), (calls.bounded_schedule, dataclasses.replace(SCHEDULE_A, gap=value), []),
             (calls.bookings, SCHEDULE_A, value, 1, 5), (calls.bookings, SCHEDULE_A, 1, value, 5),
             (calls.bookings, SCHEDULE_A, 1, 1, value), (calls.smallest_phase, SCHEDULE_A, value, 2, 18), (calls.smallest_phase, SCHEDULE_A, 1, value, 18),
             (calls.smallest_phase, SCHEDULE_A, 1, 2, value), (calls.check, dataclasses.replace(CHAIN_A, gap=value)), (calls.check, dataclasses.replace(CHAIN_A, places=value)),
@@ -1398,6 +1421,13 @@ BREACHES = [
     *[("mo_smallest_phase", calls.smallest_phase, (THREES, 1, 3, 33), leaves(*left)) for left in (
         (0, None, None), (0, [5], None), (0, None, [0]), (0, None, [1]), (0, [5], [1]), (0, [5], [2]), (0, [0], [2]), (19, [5], [0]), (20, [0], [1]), (7, None, None), (16, [0], None),
     )],
+    # A success with a place; a refusal with another state, or with latencies; latencies past the chains.
+    ("mo_make_state", calls.make_state, (BOUNDED_A,), lambda b: structs.MadeState(RUNNING_A, structs.Refusal(0, 1))),
+    ("mo_make_state", calls.make_state, (BOUNDED_A,), lambda b: structs.MadeState(RUNNING_A, structs.Refusal(21, 0))),
+    ("mo_ask", calls.ask, (PROPOSED, BOUNDED_A), lambda s, b: structs.Asked(RUNNING_A, structs.Refusal(21, 0))),
+    ("mo_ask", calls.ask, (RUNNING_A, BOUNDED_A), lambda s, b: structs.Asked(s, structs.Refusal(21, 0), (0, 0, 0, 1))),
+    ("mo_ask", calls.ask, (RUNNING_A, BOUNDED_A), lambda s, b: structs.Asked(s, structs.Refusal(0, 0), (18, 12, 1, 0))),
+    ("mo_commit", calls.commit, (PROPOSED, BOUNDED_A), lambda s, b: structs.Committed(RUNNING_A, structs.Refusal(23, 0))),
     ("mo_bookings", calls.bookings, (SCHEDULE_A, 1, 2, 0), leaves(16, [0, 0, 0, 1])), ("mo_report", calls.report, (FILE_A, bytearray(9)), leaves(0, None)),
 ]
 

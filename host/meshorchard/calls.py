@@ -78,6 +78,12 @@ class Bookings:
     greatest: int
 
 
+@dataclass(frozen=True)
+class Asking:
+    state: State
+    latencies: Tuple[int, ...]  # of each chain, in order
+
+
 def _sound(code: int, left, of: str) -> None:
     """Nothing after a success, in which each number that was lent must be written. After a refusal each must be 0."""
     if UNWRITTEN in left:
@@ -266,13 +272,13 @@ def make_state(bounded: Bounded) -> State:
     return _answered(library.load().mo_make_state(bounded), State()).state
 
 
-def ask(state: State, bounded: Bounded) -> Tuple[State, Tuple[int, ...]]:
+def ask(state: State, bounded: Bounded) -> Asking:
     """The state with this as its proposal, and the greatest latency of each chain. A refusal leaves the state as it is."""
     answer = _answered(library.load().mo_ask(state, bounded), state)
     chains = bounded.schedule.chains
     if chains > 4 or any(answer.latencies[chains:]):
         raise Broken(f"the latencies of {chains} chains are {list(answer.latencies)}")
-    return answer.state, tuple(answer.latencies[:chains])
+    return Asking(answer.state, tuple(answer.latencies[:chains]))
 
 
 def commit(state: State, bounded: Bounded) -> State:
