@@ -51,11 +51,14 @@
  * partitions of all tries are counted in the code, and that count is proved to be at most h, which would take 1 s at twelve places. A try begins
  * where such a partition is likely: most searches take some milliseconds at most, and the longest that was seen 0.2 s, for 13,029,065 partitions
  * at ten places.
+ * mo_make_state and mo_ask walk, of each chain, h / T partitions, T being its longest period, and make no list: four times what mo_sections takes
+ * at most, 0.2 s. They walk all chains before they look at a bound, so a refusal with MO_ABOVE_BOUND takes as long as an answer; every other
+ * refusal comes before any walk. mo_commit walks nothing: about a microsecond, as mo_bounded_schedule and a call that is refused at once.
  * (One run on a server's processor; an instrument's takes longer.) Nothing else that is lent makes a call take long.
  *
- * Stack. What each call needs below its caller's frame, in bytes, is MO_STACK_ below: measured on x86-64 and rounded up, not proved. The C
- * library's memcpy and memset are in it, but not the dynamic linker, which a program that binds them at their first call runs there. To
- * measure it again: tests/c/run, which holds the calls to these numbers, then target/tests/c/stack.
+ * Stack. What each call needs below its caller's frame, in bytes, is MO_STACK_ below: measured on x86-64 and rounded up, not proved. The structs
+ * that a call takes and gives by value are in it, and the C library's memcpy and memset, but not the dynamic linker, which a program that binds
+ * them at their first call runs there. To measure it again: tests/c/run, which holds the calls to these numbers, then target/tests/c/stack.
  */
 #ifndef MESHORCHARD_H
 #define MESHORCHARD_H
@@ -83,10 +86,10 @@ extern "C" {
 #define MO_STACK_CHAIN_OF_SCHEDULE 7232u
 #define MO_STACK_BOOKINGS 8896u
 #define MO_STACK_SMALLEST_PHASE 9024u
-#define MO_STACK_BOUNDED_SCHEDULE 4096u
-#define MO_STACK_MAKE_STATE 4096u
-#define MO_STACK_ASK 4096u
-#define MO_STACK_COMMIT 4096u
+#define MO_STACK_BOUNDED_SCHEDULE 3136u /* 1,496 of it for the struct handed back */
+#define MO_STACK_MAKE_STATE 19072u /* 4,512 of it for the structs handed to the call and back */
+#define MO_STACK_ASK 22080u /* 7,544 of it for the structs handed to the call and back */
+#define MO_STACK_COMMIT 12352u /* 7,512 of it for the structs handed to the call and back */
 #define MO_STACK_REPORT 22848u
 
 /*
@@ -480,24 +483,25 @@ uint64_t mo_smallest_phase(const uint64_t *tasks, size_t tasks_length, size_t co
  * keeps and hands to each call by value; a call hands back the state that follows. The calls keep nothing and write nothing that is lent.
  *
  * A schedule with bounds, mo_bounded, holds the tasks with their numbers, the chains, the two counts and the gap, as the lists above do, and a
- * bound for each chain, in their order: the greatest latency that it may have. Entries past a count are no part of it, nor are bounds from
- * entry schedule.chains on: no call looks at them, and in a state that a call hands back they are 0.
+ * bound for each chain, in their order: the greatest latency that it may have. Entries past a count are no part of it, nor are bounds past the
+ * chains: what is handed to a call is judged, compared and kept with 0 there, so 0 stands there in every state that follows from a made one.
  *
- * Every field has 8 bytes and the structs have no padding, so a state may be stored and compared as bytes. Hand it on as it is: each call
- * answers for any state, also for one that no list of calls leaves, but what is promised below holds of states that were made.
+ * Every field has 8 bytes and the structs have no padding, so a state may be stored and compared as bytes. (Two mo_bounded that mean the same may
+ * differ past their counts.) Hand a state on as it is: each call answers for any state, also for one that no list of calls leaves, but what is
+ * promised below holds of states that were made, and of those that follow from them.
  */
 typedef struct { uint64_t period, duration, phase; } mo_task;
 typedef struct { uint64_t number; mo_task task; } mo_numbered_task;
-typedef struct { uint64_t places[12]; size_t count; } mo_route;
+typedef struct { uint64_t tasks[12]; size_t places; } mo_chain; /* the task numbers at its places, and how many places there are */
 typedef struct {
     mo_numbered_task tasks[32];
-    mo_route routes[4]; /* the task numbers at the places of each chain, and how many places it has */
-    size_t count;       /* of the tasks */
-    size_t chains;      /* how many there are */
+    mo_chain chains[4];
+    size_t count; /* of the tasks */
+    size_t chain_count;
     uint64_t gap;
 } mo_schedule;
 typedef struct { mo_schedule schedule; uint64_t bounds[4]; } mo_bounded;
-typedef struct { mo_bounded proposal; uint64_t stands; } mo_side; /* stands: 0 where there is no proposal, which is zeros then; any other number: it stands */
+typedef struct { mo_bounded proposal; uint64_t stands; } mo_side; /* stands: 0 where there is none, and zeros in its place; 1 where an ask put one there. Every number but 0 counts as 1 */
 typedef struct { mo_bounded running; mo_side firmware; } mo_state;
 typedef struct { uint64_t number; size_t place; } mo_refusal; /* number 0 at place 0 in a success; the numbers and places are those of a code */
 typedef struct { mo_state state; mo_refusal refusal; } mo_made_state;
@@ -505,9 +509,9 @@ typedef struct { mo_state state; mo_refusal refusal; uint64_t latencies[4]; } mo
 typedef struct { mo_state state; mo_refusal refusal; } mo_committed;
 
 /*
- * A schedule with bounds from the lists that mo_read_file gives, or any lists that mean a schedule above. It judges nothing: where a list does
- * not hold what is counted, the count becomes 0, and what takes the schedule then refuses it with MO_PLACES_OUTSIDE_LIMITS. It may be made by
- * hand as well.
+ * A schedule with bounds from the lists that mo_read_file gives, or any lists that mean a schedule above. It judges nothing. Where a list does not
+ * hold what is counted, that count becomes 0: of the tasks, of the chains, or of the places of the one chain; making a state and asking then refuse
+ * with MO_PLACES_OUTSIDE_LIMITS. Entries past a count are those of the lists, 0 past their ends. An mo_bounded may be made by hand as well.
  */
 mo_bounded mo_bounded_schedule(const uint64_t *tasks, size_t tasks_length, size_t count,
                                const uint64_t *chains, size_t chains_length,
@@ -545,15 +549,18 @@ mo_asked mo_ask(mo_state s, mo_bounded b);
  * what the state was made with; every check passes of it, and no press by any of its chains, from that chain's warm-up tick on, waits longer
  * than the chain's bound. That is proved (crates/instrument_laws).
  *
+ * At the start, with the lists of the schedule that the instrument was shipped with, and later with those of another one:
+ *
  *     uint64_t bounds[4] = { 20000, 20000 };
+ *     mo_made_state m = mo_make_state(mo_bounded_schedule(tasks, 128, counts[0], chains, 48, places, 4, counts[1], counts[2], bounds));
+ *     if (m.refusal.number != 0) .. nothing runs, and m.state is zeros ..
+ *     mo_state state = m.state;
+ *
  *     mo_bounded b = mo_bounded_schedule(tasks, 128, counts[0], chains, 48, places, 4, counts[1], counts[2], bounds);
  *     mo_asked a = mo_ask(state, b);
  *     state = a.state;
- *     if (a.refusal.number == 0) {
- *         .. show a.latencies, and when the caver agrees:
- *         mo_committed c = mo_commit(state, b);
- *         state = c.state;
- *     }
+ *     if (a.refusal.number == 0) .. show a.latencies, and when the caver agrees
+ *         state = mo_commit(state, b).state;
  */
 mo_committed mo_commit(mo_state s, mo_bounded b);
 

@@ -38,6 +38,11 @@ static size_t depth(void (*f)(void))
 static uint64_t tasks[36], flat[36], numbered[128], chains[48], places[4], jobs[12], counts[3], figures[4], both[4];
 static uint64_t starts[1024], latencies[1024], many[1024];
 static uint64_t a, b;
+static const uint64_t bounds[4] = { 60011000, 60011000, 60011000, 60011000 };
+static mo_bounded bounded, other;
+static mo_made_state made;
+static mo_asked asked, refused;
+static mo_committed committed;
 /* The longest gap, so that a file has its record and every link waits. */
 static const uint64_t gap = 1000;
 static uint8_t file[698], text[MO_LONGEST_REPORT];
@@ -106,6 +111,15 @@ static void chain_of_schedule(void) { mo_chain_of_schedule(numbered, 128, 32, ch
 static void bookings(void) { mo_bookings(numbered, 128, 32, chains, 48, places, 4, 4, gap, 1, 4, 999999999999u, both); }
 /* A bound that every partition keeps at phase 0 of the task, so that the walk goes all the way round. */
 static void smallest_phase(void) { both[0] = mo_smallest_phase(numbered, 128, 32, chains, 48, places, 4, 4, gap, 4, 65015, 52000000, &a, &b); }
+/* The instrument's state. C hands structs by value on the stack: the copies of those that a call is given, and room for the one that it hands back, lie in the frame of the function here that calls
+ * it. They are counted, as are the plain numbers that C hands on the stack to the calls above, so the numbers hold wherever a caller keeps what it gives and gets. */
+static void bounded_schedule(void) { bounded = mo_bounded_schedule(numbered, 128, 32, chains, 48, places, 4, 4, gap, bounds); }
+static void make_state(void) { made = mo_make_state(bounded); }
+static void ask(void) { asked = mo_ask(made.state, bounded); }
+static void ask_other(void) { refused = mo_ask(asked.state, other); }
+static void commit(void) { committed = mo_commit(asked.state, bounded); }
+static void commit_other(void) { committed = mo_commit(asked.state, other); }
+static void commit_nothing(void) { committed = mo_commit(made.state, bounded); }
 static void report(void) { a = mo_report(file, file_length, text, sizeof text); }
 
 /* A call's depth below that of an empty function is at most what the header says, and not much less. */
@@ -160,6 +174,23 @@ int main(void)
     expect("bookings, and not a refusal", both[0] > 999999999999u, 1);
     held("mo_smallest_phase", smallest_phase, MO_STACK_SMALLEST_PHASE);
     expect("a phase, and neither none nor a refusal", both[0] == 0 && a == 0 && b == 0, 1);
+    held("mo_bounded_schedule", bounded_schedule, MO_STACK_BOUNDED_SCHEDULE);
+    expect("tasks of the schedule", bounded.schedule.count, 32);
+    held("mo_make_state", make_state, MO_STACK_MAKE_STATE);
+    expect("a state, and not a refusal", made.refusal.number == 0 && made.state.running.schedule.count == 32, 1);
+    held("mo_ask", ask, MO_STACK_ASK);
+    expect("four latencies, and not a refusal", asked.refusal.number == 0 && asked.latencies[0] > 48000000 && asked.latencies[3] > 48000000, 1);
+    /* The last bound is missed, by 1. */
+    other = bounded;
+    other.bounds[3] = asked.latencies[3] - 1;
+    held("mo_ask, above a bound", ask_other, MO_STACK_ASK);
+    expect("above a bound", refused.refusal.number, MO_ABOVE_BOUND);
+    held("mo_commit, of another one", commit_other, MO_STACK_COMMIT);
+    expect("another one, by its last bound", committed.refusal.number, MO_OTHER_PROPOSAL);
+    held("mo_commit, of nothing", commit_nothing, MO_STACK_COMMIT);
+    expect("no proposal", committed.refusal.number, MO_NO_PROPOSAL);
+    held("mo_commit", commit, MO_STACK_COMMIT);
+    expect("it runs, and is not refused", committed.refusal.number == 0 && committed.state.running.schedule.count == 32, 1);
     held("mo_report", report, MO_STACK_REPORT);
     expect("digits of the mean's area", mean_digits(), 16);
     return counted();

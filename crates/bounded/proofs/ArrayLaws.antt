@@ -1,7 +1,6 @@
 -- The arrays of a schedule with bounds have their lengths, as owning it tells.
-use mathlib.Core.Path.{_≡_}
 use mathlib.Core.List.{List}
-use lib.ListN.{length, length-map}
+use lib.ListN.{length-map}
 use mir.Val.{Val}
 use denote.Shadow.{shadow}
 use Rattle.schedule.proofs.ArrayLaws.{arrays}

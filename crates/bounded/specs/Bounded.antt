@@ -1,5 +1,5 @@
 -- Order 10 of document 02: a schedule with "its bound for each chain". "Bounds beyond the chain count are not looked at"; document 01: "Array entries past a count are no part of a schedule or chain."
--- So two such schedules are the same one where they are equal once zeros stand past their counts (`same-exactly` in Same), and what is kept has zeros there (`cleared-twice` in Cleared).
+-- So two such schedules are the same one where they are equal once zeros stand past their counts: exactly where they agree in all that counts (`agree-exactly` in Cleared).
 use Prim.Native.Nat.{ℕ}
 use mathlib.Core.Bool.{Bool, true, false, cond}
 use mathlib.Core.List.{List, [], _∷_, map}
@@ -34,7 +34,7 @@ pairwise f [] (y ∷ b) = false
 pairwise f (x ∷ a) [] = false
 pairwise f (x ∷ a) (y ∷ b) = cond (f x y) (pairwise f a b) false
 
--- Whether two are the same, entry by entry.
+-- Whether two are the same, entry by entry: exactly where they are equal (`same-exactly` in Same).
 unfoldable pub sameTask : NumberedTask → NumberedTask → Bool
 sameTask a b =
     cond (eqb (a .number) (b .number))

@@ -6,7 +6,7 @@ use schedule::Schedule;
 use task::Task;
 ghost use mathlib.Core.Path.{_≡_};
 ghost use mathlib.Core.List.{map};
-ghost use Prim.Native.Nat.{_≤_, _<_};
+ghost use Prim.Native.Nat.{_<_};
 ghost use lib.Dec.{eqb};
 ghost use lib.ListN.{length, take};
 ghost use Rattle.schedule.specs.Schedules.{padded, zeroNumbered, emptyRoute};

@@ -1,6 +1,6 @@
 // The instrument's state, by value, and the calls on it (order 10 of document 02): a state is made of a schedule with bounds, which runs; an ask tries another and keeps it as the proposal; a commit makes the proposal run.
-// `make_state`, `ask` and `commit` take any values, also a state that no list of calls leaves. A schedule with bounds gets zeros past its counts before all else, so no entry past a count is judged, compared, kept or
-// given back.
+// `make_state`, `ask` and `commit` take any values, also a state that no list of calls leaves. What a caller names gets zeros past its counts before it is judged, compared or kept, so no entry past a count of it is ever seen
+// again.
 use bounded::Bounded;
 use promises::Judged;
 use refusal::Refusal;

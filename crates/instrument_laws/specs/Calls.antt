@@ -16,7 +16,7 @@ use Rattle.instrument.specs.declared.State.{State}
 use Rattle.instrument.specs.Instrument.{runs, proposes, passes, askOf, commitRefusal, commitOf}
 use Rattle.instrument_laws.specs.Machine.{run}
 use Rattle.instrument_laws.specs.Order10 as machine
-use Rattle.instrument_laws.specs.Order10.{Analysis, Proposal, nothing, kept, fine, faultOf, commitFault, after, next}
+use Rattle.instrument_laws.specs.Order10.{Askable, Proposal, nothing, standing, fine, refusedFor, commitFault, after, next}
 
 -- A call, with the schedule and bounds as the caller gives them.
 pub data Call : Type 0 where
@@ -33,9 +33,23 @@ unfoldable pub stateAfter : State → Call → State
 stateAfter s (ask b) = askOf s (cleared b) .state
 stateAfter s (commit b) = commitOf s (cleared b) .state
 
+-- What it answers beside the state: the refusal, and the latencies of an ask.
+pub record Answer : Type 0 where
+  pub refusal : Refusal
+  pub latencies : List ℕ
+
+unfoldable pub answerOf : State → Call → Answer
+answerOf s (ask b) = record { refusal = askOf s (cleared b) .refusal; latencies = askOf s (cleared b) .latencies }
+answerOf s (commit b) = record { refusal = commitOf s (cleared b) .refusal; latencies = [] }
+
 -- The state after a list of calls, each made with the state that the one before handed back.
 abbrev pub afterAll : State → List Call → State
 afterAll = run stateAfter
+
+-- What the calls of a list are answered, in order.
+unfoldable pub answersOf : State → List Call → List Answer
+answersOf s [] = []
+answersOf s (c ∷ l) = answerOf s c ∷ answersOf (stateAfter s c) l
 
 -- What the commits of a list that are not refused name, in order.
 unfoldable pub commitsOf : State → List Call → List Bounded
@@ -43,10 +57,16 @@ commitsOf s [] = []
 commitsOf s (ask b ∷ l) = commitsOf (stateAfter s (ask b)) l
 commitsOf s (commit b ∷ l) = cond (fine (refusalOf s (commit b))) (cleared b ∷ commitsOf (stateAfter s (commit b)) l) (commitsOf (stateAfter s (commit b)) l)
 
+-- What the last ask of a list that is not refused names, where no commit that is not refused follows it, and else nothing; q is what was asked for before.
+unfoldable pub askedOf : Proposal Bounded → State → List Call → Proposal Bounded
+askedOf q s [] = q
+askedOf q s (ask b ∷ l) = askedOf (cond (fine (refusalOf s (ask b))) (standing (cleared b)) q) (stateAfter s (ask b)) l
+askedOf q s (commit b ∷ l) = askedOf (cond (fine (refusalOf s (commit b))) nothing q) (stateAfter s (commit b)) l
+
 -- ---- the instrument as the machine of Order10
 
-abbrev pub analysis : Analysis
-analysis = record {
+abbrev pub askable : Askable
+askable = record {
   P = Bounded;
   fault = λ (b : Bounded). judgedOf b .refusal;
   same = sameBounded;
@@ -56,7 +76,7 @@ analysis = record {
 
 -- A proposal, where one stands.
 abbrev pub proposalOf : Side → Proposal Bounded
-proposalOf d = cond (eqb (d .stands) 0) nothing (kept (d .proposal))
+proposalOf d = cond (eqb (d .stands) 0) nothing (standing (d .proposal))
 
 abbrev pub view : State → machine.State Bounded
 view s = record { running = s .running; proposal = proposalOf (s .firmware) }
@@ -65,29 +85,29 @@ abbrev pub callOf : Call → machine.Call Bounded
 callOf (ask b) = machine.ask (cleared b)
 callOf (commit b) = machine.commit (cleared b)
 
-commit-fault : (s : State) (p : Bounded) → commitFault analysis (proposalOf (s .firmware)) p ≡ commitRefusal s p
+commit-fault : (s : State) (p : Bounded) → commitFault askable (proposalOf (s .firmware)) p ≡ commitRefusal s p
 unfolding commitFault commitRefusal
 commit-fault s p = go (eqb (s .firmware .stands) 0)
   where
-    go : (b : Bool) → commitFault analysis (cond b nothing (kept (s .firmware .proposal))) p ≡ cond b (refusal 22 0) (cond (sameBounded p (s .firmware .proposal)) none (refusal 23 0))
+    go : (b : Bool) → commitFault askable (cond b nothing (standing (s .firmware .proposal))) p ≡ cond b (refusal 22 0) (cond (sameBounded p (s .firmware .proposal)) none (refusal 23 0))
     go true = refl
     go false = refl
 
-pub call-refusal : (s : State) (c : Call) → faultOf analysis (view s) (callOf c) ≡ refusalOf s c
-unfolding faultOf refusalOf askOf commitOf
+pub call-refusal : (s : State) (c : Call) → refusedFor askable (view s) (callOf c) ≡ refusalOf s c
+unfolding refusedFor refusalOf askOf commitOf
 call-refusal s (ask b) = refl
 call-refusal s (commit b) = commit-fault s (cleared b)
 
-pub call-state : (s : State) (c : Call) → view (stateAfter s c) ≡ next analysis (view s) (callOf c)
-unfolding next faultOf stateAfter askOf commitOf
+pub call-state : (s : State) (c : Call) → view (stateAfter s c) ≡ next askable (view s) (callOf c)
+unfolding next refusedFor stateAfter askOf commitOf
 call-state s (ask b) = go (passes (cleared b))
   where
-    go : (x : Bool) → view (cond x (proposes s (cleared b)) s) ≡ cond x (after analysis (view s) (machine.ask (cleared b))) (view s)
+    go : (x : Bool) → view (cond x (proposes s (cleared b)) s) ≡ cond x (after askable (view s) (machine.ask (cleared b))) (view s)
     go true = refl
     go false = refl
 call-state s (commit b) =
-    go (fine (commitRefusal s (cleared b))) ∙ ap (λ (r : Refusal). cond (fine r) (after analysis (view s) (machine.commit (cleared b))) (view s)) (sym (commit-fault s (cleared b)))
+    go (fine (commitRefusal s (cleared b))) ∙ ap (λ (r : Refusal). cond (fine r) (after askable (view s) (machine.commit (cleared b))) (view s)) (sym (commit-fault s (cleared b)))
   where
-    go : (x : Bool) → view (cond x (runs (cleared b)) s) ≡ cond x (after analysis (view s) (machine.commit (cleared b))) (view s)
+    go : (x : Bool) → view (cond x (runs (cleared b)) s) ≡ cond x (after askable (view s) (machine.commit (cleared b))) (view s)
     go true = refl
     go false = refl

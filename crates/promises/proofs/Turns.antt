@@ -1,9 +1,9 @@
 -- The turns of the loops over the chains of a schedule, and the exits of the checks and of the judge.
 use Prim.Native.Nat.{ℕ, suc, _+_, _≤_, _<_}
 use native.Mathlib.Omega.{arith}
-use mathlib.Core.Path.{_≡_, refl, sym, ap, _∙_, subst}
-use mathlib.Core.Bool.{Bool, true, false, cond}
-use mathlib.Core.List.{List, [], _∷_, map}
+use mathlib.Core.Path.{_≡_, sym, ap, _∙_, subst}
+use mathlib.Core.Bool.{Bool, true, false}
+use mathlib.Core.List.{List, _∷_, map}
 use lib.Dec.{leb}
 use lib.ListN.{length, getD, take, drop, set, length-map}
 use lib.Seq.{take-all}
@@ -18,7 +18,7 @@ use Rattle.chain.specs.Checks.{hyperVerdict, verdictOf}
 use Rattle.chain.specs.Hyperperiod.{hyperOf}
 use Rattle.chain.proofs.Front.{rest-cons, rest-end}
 use Rattle.schedule.specs.declared.Schedule.{Schedule}
-use Rattle.schedule.specs.Schedules.{tasksIn, noRoute, chainOf, chainAt, padded}
+use Rattle.schedule.specs.Schedules.{tasksIn, noRoute, chainOf, padded}
 use Rattle.schedule.specs.Arrays.{Arrays}
 use Rattle.schedule.specs.Padding.{store-more, length-padded}
 use Rattle.schedule_checks.specs.Checks.{faultOf}
@@ -28,7 +28,7 @@ use Rattle.latency.specs.Latency.{greatestLatency}
 use Rattle.bounded.specs.declared.Bounded.{Bounded}
 use Rattle.bounded.specs.Bounded.{pairwise}
 use Rattle.bounded.specs.Cleared.{BoundedArrays}
-use Rattle.promises.specs.Promises.{chainsOf, hyperRefusal, checksOf, latencyOf, greatestIn, latenciesOf, withinBounds, refusedWith, judgedOf}
+use Rattle.promises.specs.Promises.{chainsOf, hyperRefusal, checksOf, chainLatency, greatestIn, latenciesOf, withinBounds, refusedWith, judgedOf}
 use Rattle.promises.specs.EveryChain.{noChain, chain-numbered, chain-there, chains-counted, checks-sound, checks-accepted, within-four}
 
 -- ---- 7 chain by chain
@@ -82,22 +82,22 @@ module _ (s : Schedule) (a : Arrays s) (fine : checksOf s .number ≡ 0) (i : �
         subst (λ (c : Chain). verdictOf c ≡ verdict.Accepted (hyperOf (tasksOf c))) (sym (here ∙ chain-there s i h ∙ chain-numbered s i))
         (checks-accepted s a fine (suc i) (omega arith) (omega arith))
 
-    pub latency-stored : (l : List ℕ) (n : ℕ) → l ≡ padded 4 0 (map latencyOf (take i (chainsOf s))) → n ≡ greatestLatency (tasksOf x)
-        → set l i n ≡ padded 4 0 (map latencyOf (take (i + 1) (chainsOf s)))
+    pub latency-stored : (l : List ℕ) (n : ℕ) → l ≡ padded 4 0 (map chainLatency (take i (chainsOf s))) → n ≡ greatestLatency (tasksOf x)
+        → set l i n ≡ padded 4 0 (map chainLatency (take (i + 1) (chainsOf s)))
     latency-stored l n e w =
         ap (λ (y : List ℕ). set y i n) e
-        ∙ ap (set (padded 4 0 (map latencyOf (take i (chainsOf s)))) i) (w ∙ ap latencyOf (here ∙ chain-there s i h))
-        ∙ store-more latencyOf (noChain s) 0 4 (chainsOf s) i (omega (arith, chains-counted s a few)) (omega (arith, few))
+        ∙ ap (set (padded 4 0 (map chainLatency (take i (chainsOf s)))) i) (w ∙ ap chainLatency (here ∙ chain-there s i h))
+        ∙ store-more chainLatency (noChain s) 0 4 (chainsOf s) i (omega (arith, chains-counted s a few)) (omega (arith, few))
 
-  pub latencies-end : s .chains ≤ i → padded 4 0 (map latencyOf (take i (chainsOf s))) ≡ padded 4 0 (map latencyOf (chainsOf s))
-  latencies-end h = ap (λ (l : List Chain). padded 4 0 (map latencyOf l)) (take-all i (chainsOf s) (omega (arith, chains-counted s a few)))
+  pub latencies-end : s .chains ≤ i → padded 4 0 (map chainLatency (take i (chainsOf s))) ≡ padded 4 0 (map chainLatency (chainsOf s))
+  latencies-end h = ap (λ (l : List Chain). padded 4 0 (map chainLatency l)) (take-all i (chainsOf s) (omega (arith, chains-counted s a few)))
 
 -- ---- the judge
 
 pub four-latencies : (b : Bounded) → BoundedArrays b → checksOf (b .schedule) .number ≡ 0 → length (latenciesOf (b .schedule)) ≡ length (b .bounds)
 four-latencies b a fine =
     length-padded 0 4 (greatestIn (b .schedule))
-    (omega (arith, length-map (chainsOf (b .schedule)) latencyOf, chains-counted (b .schedule) (a .schedule) (few (b .schedule) (a .schedule) fine 0), few (b .schedule) (a .schedule) fine 0))
+    (omega (arith, length-map (chainsOf (b .schedule)) chainLatency, chains-counted (b .schedule) (a .schedule) (few (b .schedule) (a .schedule) fine 0), few (b .schedule) (a .schedule) fine 0))
     ∙ sym (a .bounds)
 
 module _ (b : Bounded) (v : Refusal) (is : v ≡ checksOf (b .schedule)) where

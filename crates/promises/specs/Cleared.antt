@@ -1,7 +1,7 @@
 -- Entries past a count are not looked at: of a schedule with bounds the judge says what it says of the same with zeros past its counts (`judged-cleared`).
 use Prim.Native.Nat.{ℕ}
 use mathlib.Core.Path.{_≡_, refl, sym, ap, _∙_}
-use mathlib.Core.Bool.{Bool, cond}
+use mathlib.Core.Bool.{cond}
 use mathlib.Core.List.{List, [], _∷_, map}
 use lib.Dec.{leb, eqb}
 use Rattle.refusal.specs.declared.Refusal.{Refusal}
@@ -18,7 +18,7 @@ use Rattle.bounded.specs.declared.Bounded.{Bounded}
 use Rattle.bounded.specs.Bounded.{boundsIn, pairwise, clearedSchedule, cleared}
 use Rattle.bounded.specs.Cleared.{BoundedArrays, cleared-same, bounds-stay}
 use Rattle.promises.specs.declared.Judged.{Judged}
-use Rattle.promises.specs.Promises.{chainsOf, hyperRefusal, checksOf, latencyOf, refusedWith, judgedOf}
+use Rattle.promises.specs.Promises.{chainsOf, hyperRefusal, checksOf, chainLatency, refusedWith, judgedOf}
 
 -- the chains by what is looked at: the numbers of places and the task numbers of each
 chainsBy : ℕ → List NumberedTask → List ℕ → List (List ℕ) → List Chain
@@ -45,7 +45,7 @@ judgedBy : Refusal → List Chain → List ℕ → Judged
 judgedBy f cs bs = byChecks (cond (eqb (f .number) 0) (hyperRefusal cs) f)
   where
     byChecks : Refusal → Judged
-    byChecks r = cond (eqb (r .number) 0) (cond (pairwise leb (map latencyOf cs) bs) (record { refusal = none; latencies = padded 4 0 (map latencyOf cs) }) (refusedWith (refusal 21 0))) (refusedWith r)
+    byChecks r = cond (eqb (r .number) 0) (cond (pairwise leb (map chainLatency cs) bs) (record { refusal = none; latencies = padded 4 0 (map chainLatency cs) }) (refusedWith (refusal 21 0))) (refusedWith r)
 
 judged-by : (b : Bounded) → judgedOf b ≡ judgedBy (faultOf (b .schedule)) (chainsOf (b .schedule)) (boundsIn b)
 unfolding judgedOf checksOf judgedBy

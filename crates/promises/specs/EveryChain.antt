@@ -1,15 +1,15 @@
--- What the judge says of each chain. A schedule with bounds is judged with no refusal exactly where it is sound, every hyperperiod is within its limit and every greatest latency within its bound (`kept-exactly`); then
--- no press by any of its chains waits longer than that chain's bound (`kept-delay`).
-use Prim.Native.Nat.{ℕ, zero, suc, _+_, _-_, _≤_, _<_}
+-- What the judge says of each chain. A schedule with bounds is judged with no refusal exactly where it is sound, every hyperperiod is within its limit and every greatest latency within its bound (`meets-exactly`); then
+-- no press by any of its chains, from that chain's warm-up tick on, waits longer than the chain's bound (`meets-delay`), and the latencies are those of the chains (`judged-latency`, `judged-past`).
+use Prim.Native.Nat.{ℕ, zero, suc, _-_, _≤_, _<_}
 use native.Mathlib.Omega.{arith}
 use mathlib.Core.Path.{_≡_, refl, sym, ap, _∙_}
 use mathlib.Core.Logic.{_↔_}
 use mathlib.Core.Bool.{Bool, true, false, cond}
-use mathlib.Core.List.{List, [], _∷_, map}
+use mathlib.Core.List.{List, [], _∷_}
 use lib.Dec.{leb, eqb}
-use lib.ListN.{length, getD, take, length-map, List·getD-map}
+use lib.ListN.{length, getD, take, length-map, List·getD-map, List·getD-eq-default}
 use lib.Seq.{getD-take, length-take-le}
-use borrow.Author.Tests.{le-leb, leb-true, eq-eqb, eqb-true, eqb-false}
+use borrow.Author.Tests.{le-leb, leb-true, eqb-true, eqb-false}
 use Rattle.refusal.specs.declared.Refusal.{Refusal}
 use Rattle.refusal.specs.Refusals.{refusal, none}
 use Rattle.chain.specs.declared.Chain.{Chain}
@@ -18,11 +18,10 @@ use Rattle.chain.specs.Chains.{tasksOf}
 use Rattle.chain.specs.Checks.{hyperVerdict, verdictOf}
 use Rattle.chain.specs.Hyperperiod.{hyperOf}
 use Rattle.chain.proofs.CheckLaws.{Facts, accepted}
-use Rattle.schedule.specs.declared.Route.{Route}
 use Rattle.schedule.specs.declared.Schedule.{Schedule}
 use Rattle.schedule.specs.Schedules.{tasksIn, routesIn, chainOf, chainAt, noRoute, routeNumbered, padded}
 use Rattle.schedule.specs.Arrays.{Arrays}
-use Rattle.schedule.specs.Padding.{map-at}
+use Rattle.schedule.specs.Padding.{map-at, padded-at}
 use Rattle.schedule_checks.specs.Checks.{faultOf}
 use Rattle.schedule_checks.specs.SoundSchedule.{SoundSchedule, sound, no-refusal}
 use Rattle.schedule_checks.specs.SoundChain.{sound-chain, sound-twelve}
@@ -34,7 +33,7 @@ use Rattle.bounded.specs.declared.Bounded.{Bounded}
 use Rattle.bounded.specs.Bounded.{boundsIn, pairwise}
 use Rattle.bounded.specs.Cleared.{BoundedArrays}
 use Rattle.promises.specs.declared.Judged.{Judged}
-use Rattle.promises.specs.Promises.{chainsOf, afterVerdict, hyperRefusal, checksOf, latencyOf, greatestIn, latenciesOf, withinBounds, refusedWith, judgedOf}
+use Rattle.promises.specs.Promises.{chainsOf, afterVerdict, hyperRefusal, checksOf, chainLatency, greatestIn, latenciesOf, withinBounds, refusedWith, judgedOf}
 
 -- ---- the chains of a schedule
 
@@ -119,7 +118,7 @@ padded-within (suc n) (x ∷ l) (b ∷ bs) h e = ap (λ (t : Bool). cond (leb x 
 
 pub within-four : (b : Bounded) → BoundedArrays b → b .schedule .chains ≤ 4 → pairwise leb (latenciesOf (b .schedule)) (b .bounds) ≡ withinBounds b
 within-four b a few =
-    let n : length (greatestIn (b .schedule)) ≡ b .schedule .chains = length-map (chainsOf (b .schedule)) latencyOf ∙ chains-counted (b .schedule) (a .schedule) few in
+    let n : length (greatestIn (b .schedule)) ≡ b .schedule .chains = length-map (chainsOf (b .schedule)) chainLatency ∙ chains-counted (b .schedule) (a .schedule) few in
     padded-within 4 (greatestIn (b .schedule)) (b .bounds) (omega arith) (a .bounds)
     ∙ ap (λ (k : ℕ). pairwise leb (greatestIn (b .schedule)) (take k (b .bounds))) n
 
@@ -150,8 +149,8 @@ at-pairs f (x ∷ a) (y ∷ b) e h = rw (h 0 (omega arith)) (at-pairs f a b (ome
 abbrev pub boundOf : Bounded → ℕ → ℕ
 boundOf b n = getD (b .bounds) (n - 1) 0
 
--- A schedule that keeps its bounds: the checks pass, and no chain's greatest latency is above its bound.
-pub record Kept (b : Bounded) : Type 0 where
+-- A schedule "meets its own bounds": the checks pass, and no chain's greatest latency is above its bound.
+pub record MeetsBounds (b : Bounded) : Type 0 where
   pub sound : SoundSchedule (b .schedule)
   pub hyper : (n : ℕ) → 1 ≤ n → n ≤ b .schedule .chains → hyperOf (tasksOf (chainAt (b .schedule) n)) ≤ 60000000
   pub latency : (n : ℕ) → 1 ≤ n → n ≤ b .schedule .chains → greatestLatency (tasksOf (chainAt (b .schedule) n)) ≤ boundOf b n
@@ -162,20 +161,20 @@ module _ (b : Bounded) (a : BoundedArrays b) where
 
   -- the latency and the bound of a chain, by their entries
   latency-at : (i : ℕ) → i < s .chains → s .chains ≤ 4 → getD (greatestIn s) i 0 ≡ greatestLatency (tasksOf (chainAt s (suc i)))
-  latency-at i h few = map-at latencyOf (chainsOf s) i (noChain s) 0 (omega (arith, chains-counted s (a .schedule) few)) ∙ ap latencyOf (chain-numbered s i)
+  latency-at i h few = map-at chainLatency (chainsOf s) i (noChain s) 0 (omega (arith, chains-counted s (a .schedule) few)) ∙ ap chainLatency (chain-numbered s i)
 
   bound-at : (i : ℕ) → i < s .chains → getD (boundsIn b) i 0 ≡ getD (b .bounds) i 0
   bound-at i h = getD-take (s .chains) (b .bounds) i 0 h
 
   counted : s .chains ≤ 4 → length (greatestIn s) ≡ s .chains
-  counted few = length-map (chainsOf s) latencyOf ∙ chains-counted s (a .schedule) few
+  counted few = length-map (chainsOf s) chainLatency ∙ chains-counted s (a .schedule) few
 
-  judged-kept : judgedOf b .refusal .number ≡ 0 → Kept b
+  judged-meets : judgedOf b .refusal .number ≡ 0 → MeetsBounds b
   unfolding judgedOf
-  judged-kept = go (eqb (checksOf s .number) 0) refl (withinBounds b) refl
+  judged-meets = go (eqb (checksOf s .number) 0) refl (withinBounds b) refl
     where
       go : (x : Bool) → eqb (checksOf s .number) 0 ≡ x → (y : Bool) → withinBounds b ≡ y
-          → cond x (cond y (record { refusal = none; latencies = latenciesOf s }) (refusedWith (refusal 21 0))) (refusedWith (checksOf s)) .refusal .number ≡ 0 → Kept b
+          → cond x (cond y (record { refusal = none; latencies = latenciesOf s }) (refusedWith (refusal 21 0))) (refusedWith (checksOf s)) .refusal .number ≡ 0 → MeetsBounds b
       go true e true f h =
           let fine = eqb-true (checksOf s .number) 0 e in
           let few = checks-sound s fine .few-chains in
@@ -194,15 +193,15 @@ module _ (b : Bounded) (a : BoundedArrays b) where
       go true e false f h = absurd (omega arith)
       go false e y f h = absurd (eqb-false (checksOf s .number) 0 e h)
 
-  kept-checks : Kept b → checksOf s ≡ none
+  meets-checks : MeetsBounds b → checksOf s ≡ none
   unfolding checksOf
-  kept-checks k = rw (no-refusal s (k .sound)) (all-accepted (chainsOf s) (noChain s) each)
+  meets-checks k = rw (no-refusal s (k .sound)) (all-accepted (chainsOf s) (noChain s) each)
     where
       each : (i : ℕ) → i < length (chainsOf s) → hyperOf (tasksOf (getD (chainsOf s) i (noChain s))) ≤ 60000000
       each i g = rw (chain-numbered s i) (k .hyper (suc i) (omega arith) (omega (arith, chains-counted s (a .schedule) (k .sound .few-chains))))
 
-  kept-within : Kept b → withinBounds b ≡ true
-  kept-within k = at-pairs leb (greatestIn s) (boundsIn b) (counted few ∙ sym (length-take-le (s .chains) (b .bounds) (omega (arith, a .bounds)))) each
+  meets-within : MeetsBounds b → withinBounds b ≡ true
+  meets-within k = at-pairs leb (greatestIn s) (boundsIn b) (counted few ∙ sym (length-take-le (s .chains) (b .bounds) (omega (arith, a .bounds)))) each
     where
       few : s .chains ≤ 4
       few = k .sound .few-chains
@@ -213,20 +212,33 @@ module _ (b : Bounded) (a : BoundedArrays b) where
           let z : suc i - 1 ≡ i = omega arith in
           le-leb (getD (greatestIn s) i 0) (getD (boundsIn b) i 0) (omega (arith, latency-at i h few, bound-at i h, k .latency (suc i) (omega arith) (omega arith), ap (λ (k : ℕ). getD (b .bounds) k 0) z))
 
-  kept-judged : Kept b → judgedOf b ≡ record { refusal = none; latencies = latenciesOf s }
+  meets-judged : MeetsBounds b → judgedOf b ≡ record { refusal = none; latencies = latenciesOf s }
   unfolding judgedOf
-  kept-judged k = rw (kept-checks k, kept-within k)
+  meets-judged k = rw (meets-checks k, meets-within k)
 
   -- Nothing is refused exactly where the schedule keeps its bounds; and a success is number 0 at place 0.
-  pub kept-exactly : (judgedOf b .refusal .number ≡ 0) ↔ Kept b
-  kept-exactly = (judged-kept, λ k. ap (λ (j : Judged). j .refusal .number) (kept-judged k))
+  pub meets-exactly : (judgedOf b .refusal .number ≡ 0) ↔ MeetsBounds b
+  meets-exactly = (judged-meets, λ k. ap (λ (j : Judged). j .refusal .number) (meets-judged k))
 
   pub judged-none : judgedOf b .refusal .number ≡ 0 → judgedOf b ≡ record { refusal = none; latencies = latenciesOf s }
-  judged-none h = kept-judged (judged-kept h)
+  judged-none h = meets-judged (judged-meets h)
+
+  -- The latency that is given for chain n is that chain's greatest, and 0 stands past the chains.
+  pub judged-latency : judgedOf b .refusal .number ≡ 0 → (n : ℕ) → 1 ≤ n → n ≤ s .chains → getD (judgedOf b .latencies) (n - 1) 0 ≡ greatestLatency (tasksOf (chainAt s n))
+  judged-latency h n low high =
+      let few = judged-meets h .sound .few-chains in
+      let m : suc (n - 1) ≡ n = omega arith in
+      ap (λ (j : Judged). getD (j .latencies) (n - 1) 0) (judged-none h) ∙ padded-at 0 4 (greatestIn s) (n - 1) 0 (omega arith)
+      ∙ latency-at (n - 1) (omega arith) few ∙ ap (λ (k : ℕ). greatestLatency (tasksOf (chainAt s k))) m
+
+  pub judged-past : judgedOf b .refusal .number ≡ 0 → (i : ℕ) → s .chains ≤ i → i < 4 → getD (judgedOf b .latencies) i 0 ≡ 0
+  judged-past h i past four =
+      ap (λ (j : Judged). getD (j .latencies) i 0) (judged-none h) ∙ padded-at 0 4 (greatestIn s) i 0 four
+      ∙ List·getD-eq-default (greatestIn s) 0 (omega (arith, counted (judged-meets h .sound .few-chains)))
 
   -- No press from a chain's warm-up tick on waits longer than its bound.
-  pub kept-delay : Kept b → (n : ℕ) → 1 ≤ n → n ≤ s .chains → (t : ℕ) → warmTick (tasksOf (chainAt s n)) ≤ t → delayAt (tasksOf (chainAt s n)) t ≤ boundOf b n
-  kept-delay k n low high t h =
-      let fine = ap (λ (r : Refusal). r .number) (kept-checks k) in
+  pub meets-delay : MeetsBounds b → (n : ℕ) → 1 ≤ n → n ≤ s .chains → (t : ℕ) → warmTick (tasksOf (chainAt s n)) ≤ t → delayAt (tasksOf (chainAt s n)) t ≤ boundOf b n
+  meets-delay k n low high t h =
+      let fine = ap (λ (r : Refusal). r .number) (meets-checks k) in
       let f = checks-facts s (a .schedule) fine n low high in
       omega (arith, greatest-latency-is (tasksOf (chainAt s n)) (f .passes .sound) .bound t h, k .latency n low high)

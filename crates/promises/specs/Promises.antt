@@ -39,11 +39,11 @@ unfoldable pub checksOf : Schedule → Refusal
 checksOf s = cond (eqb (faultOf s .number) 0) (hyperRefusal (chainsOf s)) (faultOf s)
 
 -- The greatest latency of each chain, in order.
-abbrev pub latencyOf : Chain → ℕ
-latencyOf c = greatestLatency (tasksOf c)
+abbrev pub chainLatency : Chain → ℕ
+chainLatency c = greatestLatency (tasksOf c)
 
 abbrev pub greatestIn : Schedule → List ℕ
-greatestIn s = map latencyOf (chainsOf s)
+greatestIn s = map chainLatency (chainsOf s)
 
 -- "gives the greatest latencies": four numbers, 0 past the chains.
 abbrev pub latenciesOf : Schedule → List ℕ

@@ -10,7 +10,7 @@ use schedule::Schedule;
 ghost use mathlib.Core.Path.{_≡_};
 ghost use lib.Dec.{leb};
 ghost use lib.ListN.{length};
-ghost use Prim.Native.Nat.{_≤_, _<_};
+ghost use Prim.Native.Nat.{_<_};
 ghost use Rattle.chain.specs.declared.Verdict.the-variants as verdict;
 ghost use Rattle.chain.specs.Chains.{tasksOf};
 ghost use Rattle.chain.specs.Hyperperiod.{hyperOf};

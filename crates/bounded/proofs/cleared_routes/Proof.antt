@@ -2,13 +2,12 @@ use native.Mathlib.Omega.{arith}
 use Prim.Native.Nat.{_-_, _≤_}
 use mathlib.Core.Path.{_≡_, refl, sym, ap, _∙_}
 use mathlib.Core.List.{List, map}
-use lib.ListN.{length, take, set, getD, length-set}
+use lib.ListN.{length, take, set, length-set}
 use Rattle.schedule.specs.declared.Route.{Route}
 use Rattle.schedule.specs.Schedules.{least, padded, emptyRoute, noRoute}
 use Rattle.schedule.specs.Padding.{padded-none, store-more}
 use Rattle.schedule.proofs.PlaceLaws.{least-le, take-least}
 use Rattle.bounded.specs.Bounded.{clearedRoute}
-use borrow.Author.Needs.{needs}
 use Rattle.bounded.proofs.cleared_routes.Statement.{statement}
 use Rattle.bounded.proofs.cleared_routes.Tie as tie
 

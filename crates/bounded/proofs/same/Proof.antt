@@ -1,6 +1,5 @@
-use mathlib.Core.Path.{_≡_, refl, sym, ap, _∙_}
+use mathlib.Core.Path.{_≡_, sym, _∙_}
 use lib.ListN.{length, length-map}
-use Prim.Native.Nat.{ℕ}
 use Rattle.bounded.specs.Bounded.{sameBounded}
 use borrow.Author.Needs.{needs}
 use Rattle.bounded.proofs.same.Statement.{statement}

@@ -1,7 +1,6 @@
 use borrow.Author.Tests.{eq-eqb, ne-eqb}
-use mathlib.Core.Path.{_≡_, refl, sym, ap, _∙_}
+use mathlib.Core.Path.{_≡_, sym, _∙_}
 use lib.ListN.{length, length-map}
-use Prim.Native.Nat.{ℕ}
 use Rattle.bounded.specs.Bounded.{sameRoute}
 use borrow.Author.Needs.{needs}
 use Rattle.bounded.proofs.same_route.Statement.{statement}

@@ -1,5 +1,5 @@
 use borrow.Author.Tests.{eq-eqb, ne-eqb}
-use mathlib.Core.Path.{_≡_, refl, sym, ap, _∙_}
+use mathlib.Core.Path.{sym, _∙_}
 use Rattle.bounded.specs.Bounded.{sameSchedule}
 use borrow.Author.Needs.{needs}
 use Rattle.bounded.proofs.same_schedule.Statement.{statement}

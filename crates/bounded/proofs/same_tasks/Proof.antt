@@ -1,10 +1,8 @@
 use native.Mathlib.Omega.{arith}
-use mathlib.Core.Path.{_≡_, refl, sym, ap, _∙_}
-use borrow.Author.Tests.{eq-eqb, ne-eqb}
+use mathlib.Core.Path.{_≡_, refl, sym, _∙_}
 use borrow.Author.Needs.{needs}
-use Prim.Native.Nat.{ℕ, _-_, _+_, _≤_}
-use lib.Dec.{eqb}
-use lib.ListN.{length, drop, getD}
+use Prim.Native.Nat.{_-_, _≤_}
+use lib.ListN.{length, drop}
 use Rattle.bounded.specs.Same.{pair-on, pair-off, pair-end}
 use Rattle.schedule.specs.Schedules.{zeroNumbered}
 use Rattle.bounded.specs.Bounded.{sameTask, pairwise}

@@ -1,4 +1,3 @@
-use mathlib.Core.Path.{_≡_}
 use Rattle.promises.proofs.Turns.{fault-first, fault-passed, then-hyper}
 use borrow.Author.Needs.{needs}
 use Rattle.promises.proofs.checks_of.Statement.{statement}

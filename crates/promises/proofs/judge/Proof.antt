@@ -1,6 +1,5 @@
-use mathlib.Core.Path.{_≡_, sym, ap, _∙_}
+use mathlib.Core.Path.{ap, _∙_}
 use lib.ListN.{length}
-use Rattle.schedule.specs.Padding.{length-padded}
 use Rattle.bounded.specs.Cleared.{BoundedArrays}
 use Rattle.bounded.proofs.ArrayLaws.{bounded-arrays}
 use Rattle.promises.proofs.Turns.{checks-first, checks-passed, four-latencies, all-kept, one-above}

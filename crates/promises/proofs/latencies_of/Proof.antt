@@ -7,7 +7,7 @@ use Rattle.schedule.specs.Arrays.{Arrays}
 use Rattle.schedule.proofs.ArrayLaws.{arrays}
 use Rattle.schedule.specs.Schedules.{padded}
 use Rattle.schedule.specs.Padding.{padded-none}
-use Rattle.promises.specs.Promises.{chainsOf, latencyOf}
+use Rattle.promises.specs.Promises.{chainsOf, chainLatency}
 use Rattle.promises.specs.EveryChain.{checks-sound}
 use Rattle.promises.proofs.Turns.{chain-accepted, latency-stored, latencies-end}
 use borrow.Author.Needs.{needs}
@@ -15,7 +15,7 @@ use Rattle.promises.proofs.latencies_of.Statement.{statement}
 use Rattle.promises.proofs.latencies_of.Tie as tie
 
 abbrev Inv-loop : tie.InvT-loop
-Inv-loop s latencies₀ i₀ latencies i = (i ≤ s .chains) × (length latencies ≡ 4) × (latencies ≡ padded 4 0 (map latencyOf (take i (chainsOf s))))
+Inv-loop s latencies₀ i₀ latencies i = (i ≤ s .chains) × (length latencies ≡ 4) × (latencies ≡ padded 4 0 (map chainLatency (take i (chainsOf s))))
 
 abbrev μ-loop : tie.MeasureT-loop
 μ-loop s latencies₀ i₀ latencies i = s .chains - i

@@ -1,5 +1,5 @@
 use native.Mathlib.Omega.{arith}
-use mathlib.Core.Path.{_≡_, ap, _∙_}
+use mathlib.Core.Path.{ap, _∙_}
 use lib.ListN.{take, length-map}
 use Rattle.chain.specs.Chains.{placed, tasksOf}
 use Rattle.chain.specs.Flat.{givenIn}
