@@ -484,7 +484,8 @@ uint64_t mo_smallest_phase(const uint64_t *tasks, size_t tasks_length, size_t co
  *
  * A schedule with bounds, mo_bounded, holds the tasks with their numbers, the chains, the two counts and the gap, as the lists above do, and a
  * bound for each chain, in their order: the greatest latency that it may have. Entries past a count are no part of it, nor are bounds past the
- * chains: what is handed to a call is judged, compared and kept with 0 there, so 0 stands there in every state that follows from a made one.
+ * chains: an mo_bounded that is handed to a call is judged, compared and kept with 0 there, so 0 stands there in every state that follows from a
+ * made one.
  *
  * Every field has 8 bytes and the structs have no padding, so a state may be stored and compared as bytes. (Two mo_bounded that mean the same may
  * differ past their counts.) Hand a state on as it is: each call answers for any state, also for one that no list of calls leaves, but what is
@@ -511,7 +512,9 @@ typedef struct { mo_state state; mo_refusal refusal; } mo_committed;
 /*
  * A schedule with bounds from the lists that mo_read_file gives, or any lists that mean a schedule above. It judges nothing. Where a list does not
  * hold what is counted, that count becomes 0: of the tasks, of the chains, or of the places of the one chain; making a state and asking then refuse
- * with MO_PLACES_OUTSIDE_LIMITS. Entries past a count are those of the lists, 0 past their ends. An mo_bounded may be made by hand as well.
+ * with MO_PLACES_OUTSIDE_LIMITS, as they do where a count stays that is above its limit. The entries are those of the lists, as far as there is
+ * room, also past the counts; 0 stands past the lists' ends, and for a task that the list does not hold whole. An mo_bounded may be made by hand
+ * as well.
  */
 mo_bounded mo_bounded_schedule(const uint64_t *tasks, size_t tasks_length, size_t count,
                                const uint64_t *chains, size_t chains_length,

@@ -10,7 +10,7 @@ from array import array
 
 TOP = os.path.dirname(os.path.dirname(os.path.abspath(__file__)))
 sys.path.insert(0, os.path.join(TOP, "host"))
-from meshorchard import Broken, Chain, Refused, Schedule, Table, calls
+from meshorchard import Bounded, Broken, Chain, Refused, Schedule, State, Table, calls, library
 from meshorchard.lent import LARGEST, ROW
 
 # What lies in memory past lent bytes: a call must not write there.
@@ -174,6 +174,48 @@ def bookings(schedule, first, second, t):
 def smallest_phase(schedule, chain, number, bound):
     """The smallest phase of the task with that number, None where no phase keeps the bound of the chain."""
     return asked(calls.smallest_phase, schedule, chain, number, bound)
+
+
+# The calls on the instrument's state. A schedule with bounds is given as its 187 numbers, a state as its bytes.
+
+# Which of the numbers is the count of chains.
+CHAINS = 181
+
+
+def handed(call, *given):
+    """What the shared object hands back: number and place of the refusal, the latencies of an ask, every byte of the state. What was given must stay, and the package must tell the same."""
+    before = list(map(bytes, given))
+    answer = getattr(library.load(), f"mo_{call.__name__}")(*given)
+    number, place, latencies = answer.refusal.number, answer.refusal.place, tuple(getattr(answer, "latencies", ()))
+    told = answered(call, *given)
+    success = (answer.state, latencies[:array("Q", bytes(given[-1]))[CHAINS]]) if call is calls.ask else (answer.state,)
+    if told != (("refused", number, place) if number else ("ok", *success)):
+        number = f"{number}, but {told} by the package"
+    if list(map(bytes, given)) != before:
+        number = f"{number}, but what was given is changed"
+    return number, place, latencies, bytes(answer.state)
+
+
+def bounded(numbers):
+    return Bounded.from_buffer_copy(array("Q", numbers))
+
+
+def make_state(numbers):
+    return handed(calls.make_state, bounded(numbers))
+
+
+def ask(state, numbers):
+    return handed(calls.ask, State.from_buffer_copy(state), bounded(numbers))
+
+
+def commit(state, numbers):
+    return handed(calls.commit, State.from_buffer_copy(state), bounded(numbers))
+
+
+def bounded_schedule(schedule, bounds):
+    """The 187 numbers of a schedule with bounds from lists, which must stay as they were."""
+    answer = asked(calls.bounded_schedule, schedule, bounds)
+    return array("Q", bytes(answer[1])).tolist() if answer[0] == "ok" else answer
 
 
 def report(data, out):

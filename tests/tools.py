@@ -1260,11 +1260,11 @@ FILE_A = b"".join(inputs.records([(1, 4, 4, 0), (2, 6, 6, 0)], [[1, 2], [2]], 0)
 def bounded(schedule, *bounds):
     """A schedule with bounds as a struct, by hand, with zeros past the counts."""
     found = structs.Bounded()
-    found.schedule.count, found.schedule.chains, found.schedule.gap = schedule.count, schedule.chain_count, schedule.gap
+    found.schedule.count, found.schedule.chain_count, found.schedule.gap = schedule.count, schedule.chain_count, schedule.gap
     for entry, (number, *values) in zip(found.schedule.tasks, schedule.task_list()):
         entry.number, entry.task = number, structs.Task(*values)
-    for route, numbers in zip(found.schedule.routes, schedule.chain_list()):
-        route.count, route.places[:len(numbers)] = len(numbers), numbers
+    for chain, numbers in zip(found.schedule.chains, schedule.chain_list()):
+        chain.places, chain.tasks[:len(numbers)] = len(numbers), numbers
     found.bounds[:len(bounds)] = bounds
     return found
 

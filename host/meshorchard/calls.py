@@ -275,7 +275,7 @@ def make_state(bounded: Bounded) -> State:
 def ask(state: State, bounded: Bounded) -> Asking:
     """The state with this as its proposal, and the greatest latency of each chain. A refusal leaves the state as it is."""
     answer = _answered(library.load().mo_ask(state, bounded), state)
-    chains = bounded.schedule.chains
+    chains = bounded.schedule.chain_count
     if chains > 4 or any(answer.latencies[chains:]):
         raise Broken(f"the latencies of {chains} chains are {list(answer.latencies)}")
     return Asking(answer.state, tuple(answer.latencies[:chains]))

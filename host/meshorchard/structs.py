@@ -26,12 +26,14 @@ class NumberedTask(_Struct):
     _fields_ = [("number", NUMBER), ("task", Task)]
 
 
-class Route(_Struct):
-    _fields_ = [("places", NUMBER * 12), ("count", SIZE)]
+class Chain(_Struct):
+    """The task numbers at the places of a chain, and how many places it has."""
+
+    _fields_ = [("tasks", NUMBER * 12), ("places", SIZE)]
 
 
 class Schedule(_Struct):
-    _fields_ = [("tasks", NumberedTask * 32), ("routes", Route * 4), ("count", SIZE), ("chains", SIZE), ("gap", NUMBER)]
+    _fields_ = [("tasks", NumberedTask * 32), ("chains", Chain * 4), ("count", SIZE), ("chain_count", SIZE), ("gap", NUMBER)]
 
 
 class Bounded(_Struct):
