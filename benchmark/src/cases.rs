@@ -1,8 +1,9 @@
 //! What is measured: chains, tables and schedules, each with the call that is made on it.
-use crate::programs::{Chain, Program, Schedule, Table, REFUSED};
+use crate::programs::{Bounded, Chain, Program, Schedule, State, Table, REFUSED};
 use plain::bookings::check_pair;
 use plain::chain::{check, forward};
-use plain::latency::longest_place;
+use plain::instrument;
+use plain::latency::{greatest, longest_place};
 use plain::load::make_load;
 use plain::maker::{make_table, Made};
 use plain::phase::Movable;
@@ -19,7 +20,7 @@ const TICKS: usize = 256;
 const MOST_STEPS: u64 = 10_000_000;
 /// Ticks are drawn up to this one, about a day.
 const LATEST: u64 = 100_000_000_000;
-/// What the lists hold before making, so that an entry written past the anchors is seen.
+/// What the lists hold before making, so that an entry written past the anchors is seen, and a schedule with bounds past its counts.
 const RUBBISH: u64 = 0xDEAD_BEEF;
 
 pub enum Call {
@@ -33,6 +34,9 @@ pub enum Call {
     Bookings { schedule: Schedule, ticks: Vec<u64> },
     Phase { schedule: Schedule, number: u64, bound: u64 },
     Load { seed: u64, places: usize },
+    /// `code` is what is to be answered, here and to a commit.
+    Ask { state: State, b: Bounded, code: u64 },
+    Commit { state: State, b: Bounded, code: u64 },
 }
 
 pub struct Case {
@@ -292,6 +296,113 @@ fn loading(seed: u64, places: usize) -> Case {
     }
 }
 
+/// Chains of as many places, each going round its own periods; no two have a task in common.
+fn rounds(chains: &[&[u64]], places: usize) -> (Vec<Task>, Vec<Vec<u64>>) {
+    let mut tasks = Vec::new();
+    let mut routes = Vec::new();
+    for periods in chains {
+        let first = tasks.len() + 1;
+        tasks.extend(tasks_after(tasks.len(), periods));
+        routes.push((0..places).map(|i| (first + i % periods.len()) as u64).collect());
+    }
+    (tasks, routes)
+}
+
+/// A schedule of tasks numbered from 1, with bounds.
+fn bounded_with(tasks: &[Task], routes: &[Vec<u64>], gap: u64, bounds: &[u64]) -> instrument::Bounded {
+    let other = NumberedTask { number: RUBBISH, task: Task { period: RUBBISH, duration: RUBBISH, phase: RUBBISH } };
+    let none = instrument::Route { places: [RUBBISH; 12], count: RUBBISH as usize };
+    let mut b = instrument::Bounded { tasks: [other; 32], count: tasks.len(), routes: [none; 4], chains: routes.len(), gap, bounds: [RUBBISH; 4] };
+    for ((numbered, number), &task) in b.tasks.iter_mut().zip(1..).zip(tasks) {
+        *numbered = NumberedTask { number, task };
+    }
+    for (entry, route) in b.routes.iter_mut().zip(routes) {
+        entry.places[..route.len()].copy_from_slice(route);
+        entry.count = route.len();
+    }
+    b.bounds[..bounds.len()].copy_from_slice(bounds);
+    b
+}
+
+/// A schedule with bounds that it just keeps, and what an ask for it walks.
+struct Promise {
+    kept: instrument::Bounded,
+    name: String,
+    walked: u64,
+    enumerating: u64,
+    work: u64,
+}
+
+impl Promise {
+    fn of(kind: &str, chains: &[&[u64]], places: usize) -> Self {
+        let (tasks, routes) = rounds(chains, places);
+        let (mut bounds, mut walked, mut steps) = (Vec::new(), 0, 0);
+        for route in &routes {
+            let chain: Vec<Task> = route.iter().map(|&number| tasks[number as usize - 1]).collect();
+            let h = check(&chain, 0).expect("a chain that is accepted");
+            bounds.push(greatest(&chain, 0, h));
+            walked += h / chain[longest_place(&chain)].period;
+            steps += h * places as u64;
+        }
+        let several = |count: usize, what: &str| format!("{count} {what}{}", if count == 1 { "" } else { "s" });
+        Promise {
+            kept: bounded_with(&tasks, &routes, 0, &bounds),
+            name: format!("{kind}, {} of {}", several(chains.len(), "chain"), several(places, "place")),
+            walked,
+            enumerating: steps,
+            work: walked * places as u64,
+        }
+    }
+
+    /// The same with one tick less for the last chain, which it does not keep.
+    fn broken(&self) -> instrument::Bounded {
+        let mut b = self.kept;
+        b.bounds[b.chains - 1] -= 1;
+        b
+    }
+
+    /// The state in which it runs, with a proposal or without one.
+    fn running(&self, proposal: Option<instrument::Bounded>) -> State {
+        let state = instrument::State::make(&self.kept).expect("bounds that are kept");
+        State::of(instrument::State { proposal: proposal.map(|b| b.cleared()), ..state })
+    }
+}
+
+/// An ask for what is kept, and one for what is not. Both walk the same, so enumerating is measured once.
+fn asking(running: &Promise, promise: &Promise) -> [Case; 2] {
+    let case = |end: &str, b: instrument::Bounded, code: u64, enumerating: u64| Case {
+        group: "ask",
+        name: format!("{}, walked {}{end}", promise.name, promise.walked),
+        call: Call::Ask { state: running.running(None), b: Bounded::of(b), code },
+        enumerating,
+        work: promise.work,
+    };
+    [case("", promise.kept, 0, promise.enumerating), case(", refused 21", promise.broken(), 21, u64::MAX)]
+}
+
+/// An ask that is refused at the first check: what handing over and clearing cost.
+fn asking_nothing(running: &Promise) -> Case {
+    Case {
+        group: "ask",
+        name: "no task and no chain, refused 8".to_string(),
+        call: Call::Ask { state: running.running(None), b: Bounded::of(bounded_with(&[], &[], 0, &[])), code: 8 },
+        enumerating: u64::MAX,
+        work: 1,
+    }
+}
+
+fn committing(running: &Promise, promise: &Promise, proposal: Option<instrument::Bounded>, code: u64) -> Case {
+    let refused = if code == 0 { String::new() } else { format!(", refused {code}") };
+    Case {
+        group: "commit",
+        name: format!("{}{refused}", promise.name),
+        call: Call::Commit { state: running.running(proposal), b: Bounded::of(promise.kept), code },
+        // There is nothing to enumerate.
+        enumerating: u64::MAX,
+        work: 1,
+    }
+}
+
 pub fn all() -> Vec<Case> {
     let doubling = |first: u64, n: u32| (0..n).map(|i| first << i).collect::<Vec<u64>>();
     // Periods without a common divisor, with hyperperiods up to the limit of 60,000,000.
@@ -384,21 +495,38 @@ pub fn all() -> Vec<Case> {
     cases.push(phase("drawn", &drawn(&[[9984, 7856, 7026], [5987, 3643, 626], [9984, 7762, 2698]]), &[3, 1, 2, 1, 2, 3, 1, 2, 2, 1, 2, 3], 716, 3, 127_570));
     cases.push(phase("load 7", &loaded(7, 12).tasks, &(1..=12).collect::<Vec<_>>(), 0, 1, 647_479));
     cases.extend([1, 4, 12].iter().map(|&places| loading(42, places)));
+    let harmonic = Promise::of("harmonic", &[&doubling(250, 8)[..]; 4], 8);
+    let single = Promise::of("harmonic", &[&[250]], 1);
+    let primes: &[u64] = &[2, 3, 5, 7, 11, 13, 17];
+    cases.push(asking_nothing(&harmonic));
+    cases.extend(asking(&harmonic, &single));
+    cases.extend(asking(&harmonic, &harmonic));
+    cases.extend(asking(&harmonic, &Promise::of("published", &[&published[..]; 4], 5)));
+    cases.extend(asking(&harmonic, &Promise::of("co-prime", &[primes; 4], 7)));
+    // As many partitions as a party will have in a round (order 12 of document 02), at the most places.
+    cases.extend(asking(&harmonic, &Promise::of("co-prime", &[primes, primes, primes, &[10, 991, 993]], 12)));
+    cases.push(committing(&harmonic, &single, Some(single.kept), 0));
+    cases.push(committing(&harmonic, &harmonic, Some(harmonic.kept), 0));
+    cases.push(committing(&harmonic, &harmonic, None, 22));
+    // The last bound differs.
+    cases.push(committing(&harmonic, &harmonic, Some(harmonic.broken()), 23));
     cases
 }
 
-/// The lists that making and histograms write to; they stay from call to call.
+/// The lists that making and histograms write to, and the instrument's state; they stay from call to call.
 pub struct Lists {
     starts: Vec<u64>,
     latencies: Vec<u64>,
     counts: Vec<u64>,
+    state: Option<Box<State>>,
 }
 
 impl Lists {
     pub fn of(case: &Case) -> Self {
         let slots = if let Call::Make { slots, .. } = case.call { slots } else { 0 };
         let entries = if let Call::Histogram { entries, .. } = case.call { entries } else { 0 };
-        Lists { starts: vec![RUBBISH; slots], latencies: vec![RUBBISH; slots], counts: vec![RUBBISH; entries] }
+        let state = if let Call::Ask { state, .. } | Call::Commit { state, .. } = &case.call { Some(Box::new(*state)) } else { None };
+        Lists { starts: vec![RUBBISH; slots], latencies: vec![RUBBISH; slots], counts: vec![RUBBISH; entries], state }
     }
 }
 
@@ -486,6 +614,33 @@ fn repeat_load<P: Program>(seed: u64, places: usize, repeats: usize) -> u64 {
     digest
 }
 
+#[inline(never)]
+fn repeat_ask<P: Program>(b: &Bounded, lists: &mut Lists, repeats: usize) -> u64 {
+    let state = lists.state.as_mut().expect("a state");
+    let mut digest = 0;
+    for _ in 0..repeats {
+        let mut out = [0; 4];
+        let code = P::ask(black_box(state), black_box(b), &mut out);
+        digest = out.iter().fold(mix(digest, code), |digest, &latency| mix(digest, latency));
+    }
+    digest
+}
+
+/// A proposal that was made to run is put back, so that it stands at each call.
+#[inline(never)]
+fn repeat_commit<P: Program>(from: &State, b: &Bounded, lists: &mut Lists, repeats: usize) -> u64 {
+    let state = lists.state.as_mut().expect("a state");
+    let mut digest = 0;
+    for _ in 0..repeats {
+        let code = P::commit(black_box(state), black_box(b));
+        if code == 0 {
+            P::put_back(state, from);
+        }
+        digest = mix(digest, code);
+    }
+    digest
+}
+
 /// Makes the call `repeats` times; a digest of what it answered.
 pub fn repeat<P: Program>(case: &Case, lists: &mut Lists, repeats: usize) -> u64 {
     let mut digest = 0;
@@ -516,11 +671,13 @@ pub fn repeat<P: Program>(case: &Case, lists: &mut Lists, repeats: usize) -> u64
         Call::Bookings { schedule, ticks } => digest = repeat_bookings::<P>(schedule, ticks, repeats),
         Call::Phase { schedule, number, bound } => digest = repeat_phase::<P>(schedule, *number, *bound, repeats),
         Call::Load { seed, places } => digest = repeat_load::<P>(*seed, *places, repeats),
+        Call::Ask { b, .. } => digest = repeat_ask::<P>(b, lists, repeats),
+        Call::Commit { state, b, .. } => digest = repeat_commit::<P>(state, b, lists, repeats),
     }
     digest
 }
 
-/// Everything that a program answers to the case: codes, figures and every entry of the lists.
+/// Everything that a program answers to the case: codes, figures, every entry of the lists and every number of the state.
 pub fn answers<P: Program>(case: &Case) -> Vec<u64> {
     let mut all = Vec::new();
     match &case.call {
@@ -583,6 +740,18 @@ pub fn answers<P: Program>(case: &Case) -> Vec<u64> {
                 all.extend(out);
             }
         }
+        Call::Ask { state, b, .. } => {
+            let mut state = *state;
+            let mut out = [RUBBISH; 4];
+            all.push(P::ask(&mut state, b, &mut out));
+            all.extend(out);
+            all.extend(P::state(&state));
+        }
+        Call::Commit { state, b, .. } => {
+            let mut state = *state;
+            all.push(P::commit(&mut state, b));
+            all.extend(P::state(&state));
+        }
     }
     all
 }
@@ -594,9 +763,10 @@ pub fn digest(answers: &[u64]) -> u64 {
     hasher.finish()
 }
 
-/// Whether an answer is a refusal. Every case is meant to be accepted.
+/// Whether an answer is a refusal. Every case is meant to be accepted, but for asks and commits that say how they are refused.
 pub fn refuses(case: &Case, answers: &[u64]) -> bool {
     match case.call {
+        Call::Ask { code, .. } | Call::Commit { code, .. } => answers[0] != code,
         Call::Make { .. } | Call::Histogram { .. } | Call::Windows { .. } | Call::Sections { .. } | Call::Phase { .. } => answers[0] != 0,
         Call::Read { .. } => answers.iter().any(|&answer| REFUSED <= answer),
         Call::Delay { .. } | Call::Age { .. } => answers.chunks(2).any(|pair| pair[0] != 0),

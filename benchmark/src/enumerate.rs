@@ -2,6 +2,7 @@
 use plain::bookings::{check_pair, Bookings};
 use plain::chain::{check, forward};
 use plain::histogram;
+use plain::instrument::{self, Latencies};
 use plain::latency::longest_place;
 use plain::maker::{Figures, Made};
 use plain::outset::places_at;
@@ -190,13 +191,20 @@ pub fn most_misses(tasks: &[Task], gap: u64, bound: u64, k: u64) -> Result<(u64,
     Ok(best)
 }
 
-/// The delay at every tick of a section's hyperperiod, walked as the plain program walks.
+/// The greatest delay at the ticks of a chain's hyperperiod h, each walked as the plain program walks.
+fn greatest(tasks: &[Task], gap: u64, h: u64) -> u64 {
+    let x0 = warm_tick(tasks, gap);
+    (x0..x0 + h).map(|t| walked_from(tasks, gap, t) - t).max().unwrap_or(0)
+}
+
+/// Every tick of each section's hyperperiod.
 pub fn section_latencies(tasks: &[Task], gap: u64, cuts: &[u64]) -> Result<Sections, Refusal> {
-    let greatest = |tasks: &[Task], gap: u64, h: u64| {
-        let x0 = warm_tick(tasks, gap);
-        (x0..x0 + h).map(|t| walked_from(tasks, gap, t) - t).max().unwrap_or(0)
-    };
     section_latencies_by(greatest, tasks, gap, cuts)
+}
+
+/// Every tick of each chain's hyperperiod.
+pub fn ask(state: &mut instrument::State, b: &instrument::Bounded) -> Result<Latencies, Refusal> {
+    state.ask_by(greatest, b)
 }
 
 /// The difference at every tick of the common hyperperiod, walked as the plain program walks.

@@ -1,7 +1,8 @@
 //! The programs that are measured, under one interface: the one of the calls for C.
 use crate::enumerate;
-use forms::{by_entries, by_value, flat};
+use forms::{by_entries, by_value, flat, handed};
 use plain::bookings::Bookings;
+use plain::instrument;
 use plain::maker::Made;
 use plain::sections::Sections;
 use plain::task::Task;
@@ -30,6 +31,45 @@ pub struct Schedule {
     pub places: Vec<u64>,
 }
 
+/// How many numbers a schedule with bounds has for C, and a state.
+const BOUNDED: usize = 32 * 4 + 4 * 13 + 3 + 4;
+const STATE: usize = 2 * BOUNDED + 1;
+
+/// A schedule with bounds in the two ways.
+pub struct Bounded {
+    pub plain: instrument::Bounded,
+    handed: c::Bounded,
+}
+
+/// The instrument's state in the two ways. A program goes on with its own.
+#[derive(Clone, Copy)]
+pub struct State {
+    pub plain: instrument::State,
+    handed: c::State,
+}
+
+/// The fields in the order in which C has them.
+fn numbers_of(b: &instrument::Bounded) -> [u64; BOUNDED] {
+    let tasks = b.tasks.iter().flat_map(|one| [one.number, one.task.period, one.task.duration, one.task.phase]);
+    let routes = b.routes.iter().flat_map(|route| route.places.into_iter().chain([route.count as u64]));
+    let all: Vec<u64> = tasks.chain(routes).chain([b.count as u64, b.chains as u64, b.gap]).chain(b.bounds).collect();
+    all.try_into().expect("every field")
+}
+
+impl Bounded {
+    pub fn of(plain: instrument::Bounded) -> Self {
+        Bounded { plain, handed: c::Bounded(numbers_of(&plain)) }
+    }
+}
+
+impl State {
+    pub fn of(plain: instrument::State) -> Self {
+        let proposal = plain.proposal.as_ref().map_or([0; BOUNDED], numbers_of);
+        let stands = plain.proposal.is_some() as u64;
+        State { plain, handed: c::State { running: c::Bounded(numbers_of(&plain.running)), proposal: c::Bounded(proposal), stands } }
+    }
+}
+
 pub trait Program {
     fn make(chain: &Chain, p: usize, starts: &mut [u64], latencies: &mut [u64], figures: &mut [u64; 4]) -> u64;
     fn read(table: &Table, t: u64) -> u64;
@@ -49,6 +89,21 @@ pub trait Program {
     /// T, D, F of each place of a made-up chain. There is one way to make it, so the proved program alone has another than the plain one's.
     fn load(seed: u64, places: usize, out: &mut [u64; 36]) -> u64 {
         give_load(plain::load::make_load(seed, places), out)
+    }
+    /// The latencies. What has the state otherwise than the plain program, or analyses otherwise, has its own ask.
+    fn ask(state: &mut State, b: &Bounded, out: &mut [u64; 4]) -> u64 {
+        give(state.plain.ask(&b.plain), out)
+    }
+    fn commit(state: &mut State, b: &Bounded) -> u64 {
+        give(state.plain.commit(&b.plain), &mut ())
+    }
+    /// Puts the proposal of another state into this one.
+    fn put_back(state: &mut State, from: &State) {
+        state.plain.proposal = from.plain.proposal;
+    }
+    /// Every number of the state, as C has it.
+    fn state(state: &State) -> [u64; STATE] {
+        State::of(state.plain).handed.numbers()
     }
 }
 
@@ -121,6 +176,51 @@ fn give_bookings(answer: Result<Bookings, Refusal>, out: &mut [u64; 4]) -> u64 {
 pub struct Proved;
 
 mod c {
+    /// Every field of the structs has 8 bytes, so those of one struct are a list here.
+    #[repr(C)]
+    #[derive(Clone, Copy)]
+    pub struct Bounded(pub [u64; super::BOUNDED]);
+
+    #[repr(C)]
+    #[derive(Clone, Copy)]
+    pub struct State {
+        pub running: Bounded,
+        pub proposal: Bounded,
+        pub stands: u64,
+    }
+
+    #[repr(C)]
+    pub struct Refusal {
+        pub number: u64,
+        pub place: usize,
+    }
+
+    #[repr(C)]
+    pub struct Asked {
+        pub state: State,
+        pub refusal: Refusal,
+        pub latencies: [u64; 4],
+    }
+
+    #[repr(C)]
+    pub struct Committed {
+        pub state: State,
+        pub refusal: Refusal,
+    }
+
+    impl State {
+        pub fn numbers(&self) -> [u64; super::STATE] {
+            let all: Vec<u64> = self.running.0.into_iter().chain(self.proposal.0).chain([self.stands]).collect();
+            all.try_into().expect("every field")
+        }
+    }
+
+    impl Refusal {
+        pub fn code(&self) -> u64 {
+            self.number + 256 * self.place as u64
+        }
+    }
+
     extern "C" {
         pub fn mo_read_table(starts: *const u64, n: usize, latencies: *const u64, m: usize, g: u64, h: u64, t: u64) -> u64;
         pub fn mo_histogram(
@@ -144,6 +244,8 @@ mod c {
             tasks: *const u64, tasks_length: usize, count: usize, chains: *const u64, chains_length: usize, places: *const u64, places_length: usize,
             chain_count: usize, gap: u64, chain: usize, number: u64, bound: u64, phase: *mut u64, none: *mut u64,
         ) -> u64;
+        pub fn mo_ask(s: State, b: Bounded) -> Asked;
+        pub fn mo_commit(s: State, b: Bounded) -> Committed;
     }
 }
 
@@ -198,6 +300,28 @@ impl Program for Proved {
 
     fn load(seed: u64, places: usize, out: &mut [u64; 36]) -> u64 {
         unsafe { c::mo_load(seed, places, out.as_mut_ptr()) }
+    }
+
+    fn ask(state: &mut State, b: &Bounded, out: &mut [u64; 4]) -> u64 {
+        let asked = unsafe { c::mo_ask(state.handed, b.handed) };
+        state.handed = asked.state;
+        *out = asked.latencies;
+        asked.refusal.code()
+    }
+
+    fn commit(state: &mut State, b: &Bounded) -> u64 {
+        let committed = unsafe { c::mo_commit(state.handed, b.handed) };
+        state.handed = committed.state;
+        committed.refusal.code()
+    }
+
+    fn put_back(state: &mut State, from: &State) {
+        state.handed.proposal = from.handed.proposal;
+        state.handed.stands = from.handed.stands;
+    }
+
+    fn state(state: &State) -> [u64; STATE] {
+        state.handed.numbers()
     }
 }
 
@@ -275,6 +399,10 @@ impl Program for Enumerating {
     fn phase(schedule: &Schedule, number: u64, bound: u64, out: &mut [u64; 2]) -> u64 {
         give_phase(enumerate::smallest_phase(&schedule.plain, 1, number, bound), out)
     }
+
+    fn ask(state: &mut State, b: &Bounded, out: &mut [u64; 4]) -> u64 {
+        give(enumerate::ask(&mut state.plain, &b.plain), out)
+    }
 }
 
 /// Making as it was before the step; all else is the plain program's.
@@ -314,7 +442,7 @@ impl Program for Dividing {
     }
 }
 
-/// Plain Rust with the chain copied at each call; the calls on tables, sections and bookings are the plain program's.
+/// Plain Rust with the chain copied at each call, and the instrument's state handed over and back; the calls on tables, sections and bookings are the plain program's.
 pub struct ByValue;
 
 impl Program for ByValue {
@@ -349,6 +477,18 @@ impl Program for ByValue {
 
     fn bookings(schedule: &Schedule, t: u64, out: &mut [u64; 4]) -> u64 {
         Plain::bookings(schedule, t, out)
+    }
+
+    fn ask(state: &mut State, b: &Bounded, out: &mut [u64; 4]) -> u64 {
+        let asked = handed::ask(state.plain, b.plain);
+        state.plain = asked.state;
+        give(asked.answer, out)
+    }
+
+    fn commit(state: &mut State, b: &Bounded) -> u64 {
+        let committed = handed::commit(state.plain, b.plain);
+        state.plain = committed.state;
+        give(committed.answer, &mut ())
     }
 }
 

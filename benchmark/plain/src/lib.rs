@@ -5,6 +5,7 @@ pub mod bookings;
 pub mod chain;
 pub mod division;
 pub mod histogram;
+pub mod instrument;
 pub mod latency;
 pub mod load;
 pub mod maker;

@@ -2,10 +2,11 @@
 use crate::task::Task;
 use crate::{Refusal, GAP_LIMIT, MOST_PLACES};
 
-const MOST_TASKS: usize = 32;
-const MOST_CHAINS: usize = 4;
+pub const MOST_TASKS: usize = 32;
+pub const MOST_CHAINS: usize = 4;
 const HIGHEST_NUMBER: u64 = 65_535;
 
+#[derive(Clone, Copy, Debug, PartialEq, Eq)]
 pub struct NumberedTask {
     pub number: u64,
     pub task: Task,
@@ -29,11 +30,41 @@ impl Chosen {
     }
 }
 
-impl Schedule {
-    fn find(&self, number: u64) -> Option<&Task> {
-        self.tasks.iter().find(|numbered| numbered.number == number).map(|numbered| &numbered.task)
-    }
+fn find(tasks: &[NumberedTask], number: u64) -> Option<&Task> {
+    tasks.iter().find(|numbered| numbered.number == number).map(|numbered| &numbered.task)
+}
 
+/// The checks 5, that of the gap last, and 6.
+pub(crate) fn check_parts(tasks: &[NumberedTask], chains: &[impl AsRef<[u64]>], gap: u64) -> Result<(), Refusal> {
+    let mut before = 0;
+    for (at, numbered) in tasks.iter().enumerate() {
+        if numbered.number <= before || HIGHEST_NUMBER < numbered.number || !numbered.task.within_limits() {
+            return Err(Refusal { number: 5, place: at + 1 });
+        }
+        before = numbered.number;
+    }
+    if GAP_LIMIT < gap {
+        return Err(Refusal::new(5));
+    }
+    for chain in chains {
+        if let Some(at) = chain.as_ref().iter().position(|&number| find(tasks, number).is_none()) {
+            return Err(Refusal { number: 6, place: at + 1 });
+        }
+    }
+    Ok(())
+}
+
+/// The chain of these task numbers, of which there are at most twelve.
+#[inline]
+pub(crate) fn choose(tasks: &[NumberedTask], numbers: &[u64]) -> Result<Chosen, Refusal> {
+    let mut chosen = [Task { period: 0, duration: 0, phase: 0 }; MOST_PLACES];
+    for (task, &number) in chosen.iter_mut().zip(numbers) {
+        *task = *find(tasks, number).ok_or(Refusal::new(6))?;
+    }
+    Ok(Chosen { tasks: chosen, places: numbers.len() })
+}
+
+impl Schedule {
     fn counts_right(&self) -> bool {
         (1..=MOST_TASKS).contains(&self.tasks.len())
             && (1..=MOST_CHAINS).contains(&self.chains.len())
@@ -45,31 +76,12 @@ impl Schedule {
         if !self.counts_right() {
             return Err(Refusal::new(8));
         }
-        let mut before = 0;
-        for (at, numbered) in self.tasks.iter().enumerate() {
-            if numbered.number <= before || HIGHEST_NUMBER < numbered.number || !numbered.task.within_limits() {
-                return Err(Refusal { number: 5, place: at + 1 });
-            }
-            before = numbered.number;
-        }
-        if GAP_LIMIT < self.gap {
-            return Err(Refusal::new(5));
-        }
-        for chain in &self.chains {
-            if let Some(at) = chain.iter().position(|&number| self.find(number).is_none()) {
-                return Err(Refusal { number: 6, place: at + 1 });
-            }
-        }
-        Ok(())
+        check_parts(&self.tasks, &self.chains, self.gap)
     }
 
     /// Chain n of a schedule that passed its checks, n counted from 1; refusal 16.
     pub fn chain(&self, n: usize) -> Result<Chosen, Refusal> {
         let numbers = n.checked_sub(1).and_then(|at| self.chains.get(at)).ok_or(Refusal::new(16))?;
-        let mut tasks = [Task { period: 0, duration: 0, phase: 0 }; MOST_PLACES];
-        for (task, &number) in tasks.iter_mut().zip(numbers) {
-            *task = *self.find(number).ok_or(Refusal::new(6))?;
-        }
-        Ok(Chosen { tasks, places: numbers.len() })
+        choose(&self.tasks, numbers)
     }
 }

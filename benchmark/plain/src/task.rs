@@ -1,7 +1,7 @@
 //! Tasks and their jobs: when a job reads and writes, when the next place can read what it wrote, and which job reads or writes around a tick.
 use crate::division::quotient;
 
-#[derive(Clone, Copy, Debug)]
+#[derive(Clone, Copy, Debug, PartialEq, Eq)]
 pub struct Task {
     pub period: u64,
     pub duration: u64,
