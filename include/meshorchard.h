@@ -4,8 +4,8 @@
  * All times are whole ticks; a tick is 1 microsecond. The calls keep nothing, allocate nothing and always return. They answer for any
  * values: none of the arguments has to be checked first.
  *
- * Lists and numbers are lent for the time of a call. A list is a pointer and the number of its entries; only mo_make_table, mo_read_running,
- * mo_histogram, mo_write_file and mo_report write to lists. A number that a call gives is lent as a pointer, several of them as an array that the call writes whole.
+ * Lists and numbers are lent for the time of a call. A list is a pointer and the number of its entries; only mo_make_table, mo_histogram,
+ * mo_write_file and mo_report write to lists. A number that a call gives is lent as a pointer, several of them as an array that the call writes whole.
  * No pointer may be null, also that of a list of 0 entries, and each must point to as many entries as are named. The numbers, arrays and
  * lists that a call writes lie apart from each other and from all else that is lent to it: the compiled code counts on that, so where they
  * overlap the answers may be wrong and the call may even stop the program. Nothing that a call was proved to do holds then.
@@ -22,7 +22,7 @@
  *   libcapi_file.a      mo_read_file, mo_write_file, mo_chain_of_schedule
  *   libcapi_bookings.a  mo_bookings
  *   libcapi_phase.a     mo_smallest_phase
- *   libcapi_instrument.a mo_bounded_schedule, mo_make_state, mo_ask, mo_commit, mo_read_running
+ *   libcapi_instrument.a mo_bounded_schedule, mo_make_state, mo_ask, mo_commit
  *   libcapi_report.a    mo_report
  * libcapi_file.a, libcapi_bookings.a, libcapi_phase.a, libcapi_instrument.a and libcapi_report.a need memcpy and memset from the C library, libcapi_maker.a, libcapi_windows.a,
  * libcapi_sections.a, libcapi_histogram.a and libcapi_load.a memset; the other three need nothing (`nm -u` on an archive tells; tests/c/run looks).
@@ -54,8 +54,6 @@
  * mo_make_state and mo_ask walk, of each chain, h / T partitions, T being its longest period, and make no list: 0.20 to 0.26 s in six calls with
  * four chains of 3,063,060 partitions of twelve places. They walk all chains before they look at a bound, so a refusal with MO_ABOVE_BOUND takes as long as an answer; every other
  * refusal comes before any walk. mo_commit walks nothing: 0.4 microseconds, as an ask that is refused at once; mo_bounded_schedule takes 0.1.
- * mo_read_running walks h / T partitions of one chain, T being its longest period, as mo_make_table does there, also for MO_LISTS_TOO_SHORT: 0.05 to
- * 0.08 s in six calls with 3,063,060 partitions of twelve places. Beside that it takes 0.3 to 0.7 microseconds; a refusal before the walk takes 0.1 to 0.2.
  * (One run on a server's processor; an instrument's takes longer.) Nothing else that is lent makes a call take long.
  *
  * Stack. What each call needs below its caller's frame, in bytes, is MO_STACK_ below: measured on x86-64 and rounded up, not proved. The structs
@@ -89,14 +87,13 @@ extern "C" {
 #define MO_STACK_BOOKINGS 8896u
 #define MO_STACK_SMALLEST_PHASE 9024u
 #define MO_STACK_BOUNDED_SCHEDULE 3136u /* 1,496 of it for the struct handed back */
-#define MO_STACK_MAKE_STATE 20608u /* 6,016 of it for the structs handed to the call and back */
-#define MO_STACK_ASK 29504u /* 10,552 of it for the structs handed to the call and back */
-#define MO_STACK_COMMIT 16768u /* 10,520 of it for the structs handed to the call and back */
-#define MO_STACK_READ_RUNNING 23616u /* 7,552 of it for the structs handed to the call and back */
+#define MO_STACK_MAKE_STATE 19072u /* 4,512 of it for the structs handed to the call and back */
+#define MO_STACK_ASK 22080u /* 7,544 of it for the structs handed to the call and back */
+#define MO_STACK_COMMIT 12352u /* 7,512 of it for the structs handed to the call and back */
 #define MO_STACK_REPORT 22848u
 
 /*
- * Refusals: the numbers of document 01, and 16 to 25 of orders 1, 6, 7, 9, 10 and 11 in document 02; order 5 there adds the gap to 5.
+ * Refusals: the numbers of document 01, and 16 to 23 of orders 1, 6, 7, 9 and 10 in document 02; order 5 there adds the gap to 5.
  */
 #define MO_FILE_ENDS_EARLY 1u          /* reading a file: fewer than 4 bytes remain, or a record runs past the file */
 #define MO_RECORD_LENGTH_WRONG 2u      /* reading a file: a length below 4, or one that its kind does not have */
@@ -107,8 +104,8 @@ extern "C" {
 #define MO_HYPERPERIOD_TOO_LONG 7u     /* above 60,000,000: that of a chain, or the common one of two */
 #define MO_PLACES_OUTSIDE_LIMITS 8u    /* places not 1 to 12, a schedule's tasks not 1 to 32 or chains not 1 to 4, or a list does not hold them */
 #define MO_CUT_OUTSIDE_PLACES 9u       /* making: the place of the cut is not one of the chain */
-#define MO_LISTS_UNEQUAL 10u           /* making, a read: the two lists have different lengths */
-#define MO_LISTS_TOO_SHORT 11u         /* making, a read: shorter than the number of anchors; writing a file: the bytes are fewer than the file's */
+#define MO_LISTS_UNEQUAL 10u           /* making: the two lists have different lengths */
+#define MO_LISTS_TOO_SHORT 11u         /* making: shorter than the number of anchors; writing a file: the bytes are fewer than the file's */
 #define MO_TICK_TOO_EARLY 12u          /* reading a table: below the first start; a chain: below its first tick for the call */
 #define MO_TICK_TOO_LATE 13u           /* above MO_UPPER_TICK */
 #define MO_TABLE_NOT_WELL_FORMED 14u
@@ -119,13 +116,11 @@ extern "C" {
 #define MO_TASK_NOT_IN_CHAIN 19u       /* smallest phase: no place of the chain has the task */
 #define MO_PERIOD_TOO_LONG 20u         /* smallest phase: the task's period is above 10,000 */
 #define MO_ABOVE_BOUND 21u             /* making a state, ask: a chain's greatest latency is above its bound */
-#define MO_NO_PROPOSAL 22u             /* commit: no proposal of the firmware's stands */
-#define MO_OTHER_PROPOSAL 23u          /* commit: the schedule or a bound differs from that proposal's */
-#define MO_PARTY_UNKNOWN 24u           /* ask, commit, a read: the party is neither MO_FIRMWARE nor MO_TABLET */
-#define MO_PARTY_MAY_NOT 25u           /* commit: the party is MO_TABLET */
+#define MO_NO_PROPOSAL 22u             /* commit: no proposal stands */
+#define MO_OTHER_PROPOSAL 23u          /* commit: the schedule or a bound differs from the proposal's */
 
 /*
- * Every call but mo_read_table, mo_report and the five on the instrument's state answers a code: 0 for a success, else a refusal's number and 256 times its place. The place is
+ * Every call but mo_read_table, mo_report and the four on the instrument's state answers a code: 0 for a success, else a refusal's number and 256 times its place. The place is
  *   in every refusal of mo_read_file a byte offset, from 0;
  *   else, for MO_TASK_OUTSIDE_LIMITS, the task's place in the chain, and of a call on a schedule its position among the tasks, from 1; 0 for
  *   the gap;
@@ -485,12 +480,7 @@ uint64_t mo_smallest_phase(const uint64_t *tasks, size_t tasks_length, size_t co
 /* ---- The instrument's state ----
  *
  * Changing the schedule that runs needs two steps: mo_ask tries another one, and mo_commit makes it run. The state is a struct that the caller
- * keeps and hands to each call by value; a call hands back the state that follows. mo_read_running shows what runs, with the table of one of its
- * chains in two lent lists; it changes no state. The calls keep nothing, and write nothing else that is lent.
- *
- * Two parties look at one state, and each call but mo_make_state says for whom it is made. The firmware may read, ask and commit; the tablet may
- * read and ask. Each has a proposal of its own; a commit names the firmware's and clears both. Nobody but the program that keeps the state need
- * hold it: what a party is told is all that a call answers but the state.
+ * keeps and hands to each call by value; a call hands back the state that follows. The calls keep nothing and write nothing that is lent.
  *
  * A schedule with bounds, mo_bounded, holds the tasks with their numbers, the chains, the two counts and the gap, as the lists above do, and a
  * bound for each chain, in their order: the greatest latency that it may have. Entries past a count are no part of it, nor are bounds past the
@@ -513,22 +503,11 @@ typedef struct {
 } mo_schedule;
 typedef struct { mo_schedule schedule; uint64_t bounds[4]; } mo_bounded;
 typedef struct { mo_bounded proposal; uint64_t stands; } mo_side; /* stands: 0 where there is none, and zeros in its place; 1 where an ask put one there. Every number but 0 counts as 1 */
-typedef struct { mo_bounded running; mo_side firmware, tablet; } mo_state;
+typedef struct { mo_bounded running; mo_side firmware; } mo_state;
 typedef struct { uint64_t number; size_t place; } mo_refusal; /* number 0 at place 0 in a success; the numbers and places are those of a code */
 typedef struct { mo_state state; mo_refusal refusal; } mo_made_state;
 typedef struct { mo_state state; mo_refusal refusal; uint64_t latencies[4]; } mo_asked;
 typedef struct { mo_state state; mo_refusal refusal; } mo_committed;
-typedef struct {
-    mo_refusal refusal;
-    mo_bounded running;
-    mo_bounded proposal; /* the caller's own; zeros where none stands */
-    uint64_t stands;     /* as in mo_side */
-    size_t anchors;      /* g, x0, h and the number of partitions walked, as mo_make_table gives them */
-    uint64_t tick, hyperperiod, walked;
-} mo_shown;
-
-#define MO_FIRMWARE 1u
-#define MO_TABLET 2u
 
 /*
  * A schedule with bounds from the lists that mo_read_file gives, or any lists that mean a schedule above. It judges nothing. Where a list does not
@@ -543,7 +522,7 @@ mo_bounded mo_bounded_schedule(const uint64_t *tasks, size_t tasks_length, size_
                                const uint64_t bounds[4]);
 
 /*
- * A state in which b runs and no proposal of either party stands.
+ * A state in which b runs and no proposal stands.
  *
  * Refuses, the first that applies:
  *   MO_PLACES_OUTSIDE_LIMITS, MO_TASK_OUTSIDE_LIMITS, MO_TASK_UNKNOWN   as each call on a schedule does, with the same places;
@@ -554,32 +533,24 @@ mo_bounded mo_bounded_schedule(const uint64_t *tasks, size_t tasks_length, size_
 mo_made_state mo_make_state(mo_bounded b);
 
 /*
- * Tries b: latencies becomes the greatest latency of each chain, in their order, with 0 past the chains, and b the party's proposal in the state
- * that is handed back, in place of an earlier one of that party. What runs stays, and so does the other party's proposal.
+ * Tries b: latencies becomes the greatest latency of each chain, in their order, with 0 past the chains, and b the proposal of the state that is
+ * handed back, in place of an earlier one. What runs stays.
  *
- * Refuses, the first that applies:
- *   MO_PARTY_UNKNOWN   the party is neither MO_FIRMWARE nor MO_TABLET; at place 0;
- *   then as mo_make_state does.
- * A refusal hands the state back as it was, an earlier proposal included, and 0 in every entry of latencies.
+ * Refuses as mo_make_state does. A refusal hands the state back as it was, an earlier proposal included, and 0 in every entry of latencies.
  */
-mo_asked mo_ask(mo_state s, uint64_t party, mo_bounded b);
+mo_asked mo_ask(mo_state s, mo_bounded b);
 
 /*
- * Makes the firmware's proposal run, which b names again, schedule and bounds; in the state that is handed back no proposal stands, neither the
- * firmware's nor the tablet's.
+ * Makes the proposal run, which b names again, schedule and bounds; in the state that is handed back no proposal stands.
  *
- * Refuses, the first that applies, all at place 0, and makes no other check:
- *   MO_PARTY_UNKNOWN    the party is neither MO_FIRMWARE nor MO_TABLET;
- *   MO_PARTY_MAY_NOT    the party is MO_TABLET;
- *   MO_NO_PROPOSAL      no proposal of the firmware's stands;
- *   MO_OTHER_PROPOSAL   the schedule or a bound differs from that proposal's, be b faulty or not.
+ * Refuses, the first that applies, both at place 0, and makes no other check:
+ *   MO_NO_PROPOSAL      no proposal stands;
+ *   MO_OTHER_PROPOSAL   the schedule or a bound differs from the proposal's, be b faulty or not.
  * A refusal hands the state back as it was.
  *
- * From a state that mo_make_state made, over every list of reads, asks and commits, what runs is what the last commit that was not refused names,
- * or what the state was made with; every check passes of it, and no press by any of its chains, from that chain's warm-up tick on, waits longer
- * than the chain's bound. From any state, over every list of calls: without the tablet's calls the firmware is answered the same; and where in two
- * lists the tablet's calls and the commits that are not refused are the same, in one order, the tablet is answered the same, whatever else the
- * firmware asked. That is proved (crates/instrument_laws). What lent lists held before is part of a call: lend each party lists of its own.
+ * From a state that mo_make_state made, over every list of asks and commits, what runs is what the last commit that was not refused names, or
+ * what the state was made with; every check passes of it, and no press by any of its chains, from that chain's warm-up tick on, waits longer
+ * than the chain's bound. That is proved (crates/instrument_laws).
  *
  * At the start, with the lists of the schedule that the instrument was shipped with, and later with those of another one:
  *
@@ -589,39 +560,12 @@ mo_asked mo_ask(mo_state s, uint64_t party, mo_bounded b);
  *     mo_state state = m.state;
  *
  *     mo_bounded b = mo_bounded_schedule(tasks, 128, counts[0], chains, 48, places, 4, counts[1], counts[2], bounds);
- *     mo_asked a = mo_ask(state, MO_FIRMWARE, b);
+ *     mo_asked a = mo_ask(state, b);
  *     state = a.state;
  *     if (a.refusal.number == 0) .. show a.latencies, and when the caver agrees
- *         state = mo_commit(state, MO_FIRMWARE, b).state;
+ *         state = mo_commit(state, b).state;
  */
-mo_committed mo_commit(mo_state s, uint64_t party, mo_bounded b);
-
-/*
- * Shows a party what runs, with its bounds, the party's own proposal, with its bounds, and the table of chain `chain` of what runs, counted from 1,
- * made with the cut at the longest period: starts and latencies become its anchors, as mo_make_table leaves them, and entries from g on keep their
- * content. The state stays as it is. What runs and a proposal that stands are shown byte for byte as they are in the state, where no proposal stands
- * zeros.
- *
- * Refuses, the first that applies:
- *   MO_PARTY_UNKNOWN          the party is neither MO_FIRMWARE nor MO_TABLET; at place 0;
- *   MO_PLACES_OUTSIDE_LIMITS, MO_TASK_OUTSIDE_LIMITS, MO_TASK_UNKNOWN   of what runs, as each call on a schedule does, with the same places;
- *   MO_CHAIN_UNKNOWN          what runs has no chain of that number;
- *   MO_HYPERPERIOD_TOO_LONG   that of the chain is above 60,000,000;
- *   MO_LISTS_UNEQUAL          the two lists have different lengths;
- *   MO_LISTS_TOO_SHORT        the lists are shorter than g: they hold the first anchors that fit.
- * Of a state that mo_make_state made, and of those that follow from it, only MO_PARTY_UNKNOWN, MO_CHAIN_UNKNOWN, MO_LISTS_UNEQUAL and
- * MO_LISTS_TOO_SHORT can come; that is proved. MO_LISTS_TOO_SHORT writes the lists and gives anchors, tick, hyperperiod and walked, with zeros in
- * every other field, so a caller may ask for g with lists of 0 entries first. Every other refusal has zeros in every field but itself, and leaves
- * the lists as they were.
- *
- * A tablet that shows the delay at a tick t of what runs, by its first chain:
- *
- *     static uint64_t starts[1024], latencies[1024];
- *     mo_shown r = mo_read_running(state, MO_TABLET, 1, starts, 1024, latencies, 1024);
- *     if (r.refusal.number == 0)
- *         show_delay(mo_read_table(starts, 1024, latencies, 1024, r.anchors, r.hyperperiod, t));
- */
-mo_shown mo_read_running(mo_state s, uint64_t party, size_t chain, uint64_t *starts, size_t starts_length, uint64_t *latencies, size_t latencies_length);
+mo_committed mo_commit(mo_state s, mo_bounded b);
 
 /*
  * The report of a schedule file: of each chain in turn a line with its number, then its table, made with 1,024 slots and cut at the longest

@@ -1,7 +1,7 @@
 """Reference program of Meshorchard: delay tables for chains of
 fixed-duration tasks of cave-survey laser instruments.
 
-It is written from document 01 and orders 1 to 3 and 5 to 11 of document 02
+It is written from document 01 and orders 1 to 3 and 5 to 10 of document 02
 alone and follows their definitions as literally as running time allows.  It
 uses the standard library only.  Order 4 changes no answer.  Only the words
 and lines of chainload, and the task numbers in its file, are not in these
@@ -15,12 +15,8 @@ Conventions
   there is (number, T, D, F), a chain is (place_count, task numbers).  Entries
   past a count are no part of it.  Its gap is that of each of its chains.
   A schedule with bounds, called held, is one tuple of these five and the
-  bounds, one for each chain.  A state is (running, firmware_proposal,
-  tablet_proposal), each as named() gives it; a proposal is None where none
-  stands.
-  A party is any number: 1 is the firmware, 2 is the tablet.
-  A call in a list of calls is ("read", party, n, starts, latencies),
-  ("ask", party, held) or ("commit", party, held).
+  bounds, one for each chain.  A state is (running, proposal), each as named()
+  gives it; the proposal is None where none stands.
   Places and chains count from 1, job numbers count from 0.
   A success is ("ok", ...), a refusal is ("refused", number, place).
 """
@@ -1237,7 +1233,7 @@ def latency_at_phases_of(task_count, tasks, chain_count, chains, gap, n,
 
 
 # ---------------------------------------------------------------------------
-# A running schedule and its proposals
+# A running schedule and a proposal
 # ---------------------------------------------------------------------------
 
 def named(held):
@@ -1261,8 +1257,8 @@ def named(held):
 
 
 # What a caller has after a refused making: no task, no chain, gap 0, no bound
-# and no proposal of either party.
-STATE_OF_ZEROS = (named((0, (), 0, (), 0, ())), None, None)
+# and no proposal.
+STATE_OF_ZEROS = (named((0, (), 0, (), 0, ())), None)
 
 
 def latencies_within_bounds(held):
@@ -1302,201 +1298,43 @@ def make_state(held):
 
     Document 02, order 10: "Making a state takes a schedule with bounds and
     refuses what an ask would refuse, then handing back a state of zeros."
-    A made state has no proposal, of neither party.  No party is taken.
+    A made state has no proposal.
     """
     answer = latencies_within_bounds(held)
     if answer[0] != "ok":
         return answer
-    return ("ok", (named(held), None, None))
+    return ("ok", (named(held), None))
 
 
-# ---------------------------------------------------------------------------
-# Firmware and tablet
-# ---------------------------------------------------------------------------
-
-FIRMWARE = 1
-TABLET = 2
-
-# Document 02, order 11: "Party 1, the firmware, may read, ask and commit;
-# party 2, the tablet, may read and ask."
-MAY_MAKE = {
-    FIRMWARE: ["read", "ask", "commit"],
-    TABLET: ["read", "ask"],
-}
-
-
-def party_fault(party, name):
-    """The refusal 24 or 25 of a call by a party, or None.
-
-    Document 02, order 11: "Before all other checks an unknown party is
-    refused with 24 and a call the party may not make with 25."  The party is
-    any number.  Only the tablet's commit is 25.
-    """
-    if party not in MAY_MAKE:
-        return refused(24)
-    if name not in MAY_MAKE[party]:
-        return refused(25)
-    return None
-
-
-def proposal_of(state, party):
-    """The proposal of a known party, or None.
-
-    Document 02, order 11: "Each has a proposal of its own".
-    """
-    _running, firmware_proposal, tablet_proposal = state
-    if party == FIRMWARE:
-        return firmware_proposal
-    return tablet_proposal
-
-
-def read(state, party, n, starts, latencies):
-    """Read: (answer, starts after, latencies after).
-
-    The answer is ("ok", running, proposal, g, x0, H, walked), or
-    ("refused", 11, 0, g, x0, H, walked), or refusal 24, 8, 5, 6, 16, 7, 10.
-    Document 02, order 11: "A read gives the running schedule with its bounds,
-    the caller's proposal with its bounds or `none`, and for a chain number
-    that chain's table made with the cut at the longest period (checked as an
-    analysis from a schedule; a made state meets only 16, 10, 11; 11 leaves
-    the lists and gives g, x0, H and the walked number as making does, all
-    else zeros)."  The proposal is None for `none`.  11 leaves in the lists
-    what making leaves in them, the first anchors that fit.  A read alters no
-    state.
-    """
-    fault = party_fault(party, "read")
-    if fault is not None:
-        return (fault, list(starts), list(latencies))
-    running, _firmware_proposal, _tablet_proposal = state
-    # 8, 5, 6, 16: as in every analysis from a schedule.  Bounds have no part.
-    task_count, tasks, chain_count, chains, gap, _bounds = running
-    chain = chain_of_schedule(task_count, tasks, chain_count, chains, gap, n)
-    if chain[0] != "ok":
-        return (chain, list(starts), list(latencies))
-    # 7, 10, 11: those of making.  Its p is a place, so there is no 9.
-    p = longest_period_place(chain[1])
-    made, starts_after, latencies_after = make(chain[1], gap, p, starts,
-                                               latencies)
-    if made[0] != "ok":
-        return (made, starts_after, latencies_after)
-    _ok, g, x0, H, walked = made
-    answer = ("ok", running, proposal_of(state, party), g, x0, H, walked)
-    return (answer, starts_after, latencies_after)
-
-
-def ask(state, party, held):
+def ask(state, held):
     """Ask: (answer, state after).
 
-    The answer is ("ok", latencies), or refusal 24, 8, 5, 6, 7, 21.
-    Document 02, order 10: "Ask takes a schedule with bounds, gives the
-    greatest latencies, and keeps it as the proposal in place of an earlier
-    one."  By order 11 that is the caller's own, and the other's stays.  "A
-    refused call alters neither", so it leaves all three.
+    The answer is ("ok", latencies), or refusal 8, 5, 6, 7, 21.  Document 02,
+    order 10: "Ask takes a schedule with bounds, gives the greatest latencies,
+    and keeps it as the proposal in place of an earlier one."  "A refused call
+    alters neither", so it leaves the running one and the proposal.
     """
-    fault = party_fault(party, "ask")
-    if fault is not None:
-        return (fault, state)
+    running, _earlier = state
     answer = latencies_within_bounds(held)
     if answer[0] != "ok":
         return (answer, state)
-    running, firmware_proposal, tablet_proposal = state
-    if party == FIRMWARE:
-        firmware_proposal = named(held)
-    else:
-        tablet_proposal = named(held)
-    return (answer, (running, firmware_proposal, tablet_proposal))
+    return (answer, (running, named(held)))
 
 
-def commit(state, party, held):
+def commit(state, held):
     """Commit: (answer, state after).
 
-    The answer is ("ok",), or refusal 24, 25, 22, 23.  Document 02, order 10:
-    "Commit names the schedule and bounds again and makes them run, clearing
-    the proposal."  It "makes no other checks than 22 if no proposal stands,
-    and then 23 if schedule or bounds differ from it, faulty ones included."
-    By order 11 the proposal is the caller's own, "and a commit clears both".
+    The answer is ("ok",), or refusal 22, 23.  Document 02, order 10: "Commit
+    names the schedule and bounds again and makes them run, clearing the
+    proposal."  It "makes no other checks than 22 if no proposal stands, and
+    then 23 if schedule or bounds differ from it, faulty ones included."
     """
-    fault = party_fault(party, "commit")
-    if fault is not None:
-        return (fault, state)
-    proposal = proposal_of(state, party)
+    _running, proposal = state
     if proposal is None:
         return (refused(22), state)
     if named(held) != proposal:
         return (refused(23), state)
-    return (("ok",), (proposal, None, None))
-
-
-# ---------------------------------------------------------------------------
-# Lists of calls
-# ---------------------------------------------------------------------------
-
-def made_call(state, call):
-    """One call of a list: (answer, state after).
-
-    Of a read the answer has the lent lists: it is (answer, starts after,
-    latencies after), as read gives it.
-    """
-    if call[0] == "read":
-        _name, party, n, starts, latencies = call
-        return (read(state, party, n, starts, latencies), state)
-    if call[0] == "ask":
-        _name, party, held = call
-        return ask(state, party, held)
-    if call[0] == "commit":
-        _name, party, held = call
-        return commit(state, party, held)
-    raise ValueError("there is no such call")
-
-
-def run_calls(state, calls):
-    """A list of calls from a state: (list of (call, answer), state after)."""
-    answered = []
-    for call in calls:
-        answer, state = made_call(state, call)
-        answered.append((call, answer))
-    return (answered, state)
-
-
-def without_tablet(calls):
-    """The list without the tablet's calls.
-
-    Document 02, order 11: "Taking the tablet's calls out of any list changes
-    nothing that the firmware is answered."  Calls that the tablet may not
-    make are the tablet's too.  Those of unknown parties stay.
-    """
-    return [call for call in calls if call[1] != TABLET]
-
-
-def named_call(call):
-    """What counts of a call: equal for two that are the same call.
-
-    Of a schedule with bounds it is what named() gives, of a lent list its
-    content.
-    """
-    if call[0] == "read":
-        name, party, n, starts, latencies = call
-        return (name, party, n, tuple(starts), tuple(latencies))
-    name, party, held = call
-    return (name, party, named(held))
-
-
-def tablet_events(state, calls):
-    """What two lists must have in common to answer the tablet alike.
-
-    Document 02, order 11: "Two lists from one state, with the same tablet
-    calls and the same unrefused commits in the same order among them, answer
-    the tablet alike."  So it has these calls, in their order.  Whether a
-    commit is refused is judged in the state in which it is made.
-    """
-    events = []
-    for call in calls:
-        answer, state = made_call(state, call)
-        if call[1] == TABLET:
-            events.append(named_call(call))
-        elif call[0] == "commit" and answer[0] == "ok":
-            events.append(named_call(call))
-    return events
+    return (("ok",), (proposal, None))
 
 
 # ---------------------------------------------------------------------------

@@ -5426,13 +5426,8 @@ def group_phase_refusals(rng):
 
 
 # ---------------------------------------------------------------------------
-# A running schedule and its proposals, order 10 with the parties of order 11
+# A running schedule and a proposal, order 10
 # ---------------------------------------------------------------------------
-
-# Numbers that are no party.  Cut to 8, 16 or 32 bits some would be one.
-NO_PARTIES = [0, 3, 4, 12, 255, 257, 258, 65_537, 65_538, 2 ** 32 + 1,
-              2 ** 32 + 2, 2 ** 63 + 1, HIGHEST - 1, HIGHEST]
-NO_PARTY = itertools.cycle(NO_PARTIES)
 
 TASKS_A = [(1, 4, 4, 0), (2, 6, 6, 0)]
 
@@ -5586,53 +5581,28 @@ def judged(held, greatest=known_greatest):
 
 
 def check_ask_and_make(held, expected, states, what):
-    """Making, asks of both parties, and commits that follow.
-
-    The form is written out.  An ask that is not refused puts it in the place
-    of the caller's own proposal, and nothing else moves.
-    """
+    """Both calls, and a commit that follows: the form is written out."""
     form = written_out(held)
     if expected[0] == "ok":
-        same(ref.make_state(held), ("ok", (form, None, None)),
-             "make, " + what)
+        same(ref.make_state(held), ("ok", (form, None)), "make, " + what)
+        for running, proposal in states:
+            found, after = ref.ask((running, proposal), held)
+            same((found, after), (expected, (running, form)), "ask, " + what)
+            same(ref.commit(after, held), (("ok",), (form, None)),
+                 "commit, " + what)
     else:
         same(ref.make_state(held), expected, "make, " + what)
-    for state in states:
-        running, firmware, tablet = state
-        asked = (running, form, tablet), (running, firmware, form)
-        if expected[0] != "ok":
-            asked = state, state
-        for party in (1, 2):
-            same(ref.ask(state, party, held), (expected, asked[party - 1]),
-                 "ask of %d, %s" % (party, what))
-        same(ref.ask(state, next(NO_PARTY), held),
-             (("refused", 24, 0), state), "ask of no party, " + what)
-        if expected[0] != "ok":
-            continue
-        same(ref.commit(asked[0], 1, held), (("ok",), (form, None, None)),
-             "commit, " + what)
-        # The tablet's proposal is no proposal of the firmware.
-        if firmware is None:
-            same(ref.commit(asked[1], 1, held),
-                 (("refused", 22, 0), asked[1]), "commit, " + what)
-        elif not alike(firmware, held):
-            same(ref.commit(asked[1], 1, held),
-                 (("refused", 23, 0), asked[1]), "commit, " + what)
-        for after in asked:
-            same(ref.commit(after, 2, held), (("refused", 25, 0), after),
-                 "commit of the tablet, " + what)
-            same(ref.commit(after, next(NO_PARTY), held),
-                 (("refused", 24, 0), after), "commit of no party, " + what)
+        for state in states:
+            same(ref.ask(state, held), (expected, state), "ask, " + what)
 
 
 def states_by_hand():
-    """States without a proposal, with one and with two, and one of zeros."""
+    """A state without a proposal and one with, and one made of zeros."""
     one = (2, ((1, 4, 4, 0), (2, 6, 6, 0)), 2, ((2, (1, 2)), (1, (2,))), 0,
            (18, 12))
     two = (1, ((9, 10, 3, 5),), 1, ((1, (9,)),), 1_000, (HIGHEST,))
     zeros = (0, (), 0, (), 0, ())
-    return [(one, None, None), (one, two, one), (two, one, None),
-            (zeros, None, None), (one, None, two)]
+    return [(one, None), (one, two), (two, one), (zeros, None)]
 
 
 def group_states_by_hand(_rng):
@@ -5676,9 +5646,9 @@ def group_states_by_hand(_rng):
          [plain, gapped, roomy, single], "what is named")
     tight = with_bounds(TASKS_A, A, 1, [19, 13])
     tight_second = with_bounds(TASKS_A, A, 1, [20, 11])
-    same(ref.make_state(a_plain), ("ok", (plain, None, None)), "made")
+    same(ref.make_state(a_plain), ("ok", (plain, None)), "made")
     same(ref.make_state(tight), ("refused", 21, 0), "not made")
-    same(ref.STATE_OF_ZEROS, ((0, (), 0, (), 0, ()), None, None), "zeros")
+    same(ref.STATE_OF_ZEROS, ((0, (), 0, (), 0, ()), None), "zeros")
     # 8, 5 of a task, 5 of the gap, 6, 7.
     faulty = [
         (with_bounds(TASKS_A, [], 0, []), ("refused", 8, 0)),
@@ -5692,8 +5662,7 @@ def group_states_by_hand(_rng):
                      [HIGHEST] * 2), ("refused", 7, 0)),
         (tight, ("refused", 21, 0)), (tight_second, ("refused", 21, 0)),
     ]
-    # The firmware's call, what it takes, its answer, what runs and what
-    # it proposes after it.
+    # Call, what it takes, its answer, the state after it.
     way = [
         (ref.commit, a_plain, ("refused", 22, 0), (plain, None)),
         (ref.commit, a_gapped, ("refused", 22, 0), (plain, None)),
@@ -5722,74 +5691,37 @@ def group_states_by_hand(_rng):
         (ref.commit, a_single, ("ok",), (single, None)),
         (ref.commit, a_single, ("refused", 22, 0), (single, None)),
     ]
-    # The same whatever the tablet proposes; a commit clears that too.
-    for tablet in (None, plain, gapped, single):
-        state = (plain, None, tablet)
-        for turn, (call, held, answer, (runs, stands)) in enumerate(way):
-            what = "call %d" % (turn + 1)
-            if answer == ("ok",):
-                tablet = None
-            after = (runs, stands, tablet)
-            same(call(state, 1, held), (answer, after), what)
-            # Between them a commit of the tablet, and calls of no party.
-            same(ref.commit(state, 2, held), (("refused", 25, 0), state),
-                 what + " of the tablet")
-            for other in (ref.ask, ref.commit):
-                same(other(state, next(NO_PARTY), held),
-                     (("refused", 24, 0), state), what + " of no party")
-            # A fault in between is answered and changes nothing.
-            standing = 22 if stands is None else 23
-            for bad, refusal in faulty:
-                same(ref.make_state(bad), refusal, "make, fault")
-                for party in (1, 2):
-                    same(ref.ask(after, party, bad), (refusal, after),
-                         "ask of %d, fault" % party)
-                same(ref.commit(after, 1, bad),
-                     (("refused", standing, 0), after), "commit, fault")
-                same(ref.commit(after, 2, bad),
-                     (("refused", 25, 0), after), "tablet's commit, fault")
-            state = after
-    # The asks of this way by the tablet: they gather on its own side, and
-    # no commit of the firmware takes them.
-    state = (plain, None, None)
-    for turn, (call, held, answer, _after) in enumerate(way):
-        if call is ref.ask:
-            after = (plain, None, written_out(held)) if answer[0] == "ok" \
-                else state
-            same(ref.ask(state, 2, held), (answer, after), "tablet's ask")
-            state = after
-        else:
-            same(ref.commit(state, 1, held), (("refused", 22, 0), state),
-                 "the tablet's proposal alone")
-            same(ref.commit(state, 2, held), (("refused", 25, 0), state),
-                 "tablet's commit")
-    same(state, (plain, None, single), "the tablet's last ask")
+    state = (plain, None)
+    for turn, (call, held, answer, after) in enumerate(way):
+        what = "call %d" % (turn + 1)
+        same(call(state, held), (answer, after), what)
+        # A fault in between is answered and changes nothing.
+        standing = 22 if after[1] is None else 23
+        for bad, refusal in faulty:
+            same(ref.make_state(bad), refusal, "make, fault")
+            same(ref.ask(after, bad), (refusal, after), "ask, fault")
+            same(ref.commit(after, bad), (("refused", standing, 0), after),
+                 "commit, fault")
+        state = after
     # From a state of zeros the calls go on as from any other.
-    zeros = (0, (), 0, (), 0, ())
-    same(ref.commit(ref.STATE_OF_ZEROS, 1, a_single),
+    same(ref.commit(ref.STATE_OF_ZEROS, a_single),
          (("refused", 22, 0), ref.STATE_OF_ZEROS), "zeros")
-    same(ref.ask(ref.STATE_OF_ZEROS, 1, a_single),
-         (("ok", [12]), (zeros, single, None)), "zeros")
-    same(ref.ask(ref.STATE_OF_ZEROS, 2, a_single),
-         (("ok", [12]), (zeros, None, single)), "zeros")
-    same(ref.commit((zeros, single, None), 1, a_single),
-         (("ok",), (single, None, None)), "zeros")
-    same(ref.commit((zeros, None, single), 1, a_single),
-         (("refused", 22, 0), (zeros, None, single)), "zeros")
+    zeros_asked = ((0, (), 0, (), 0, ()), single)
+    same(ref.ask(ref.STATE_OF_ZEROS, a_single),
+         (("ok", [12]), zeros_asked), "zeros")
+    same(ref.commit(zeros_asked, a_single), (("ok",), (single, None)),
+         "zeros")
     # What is given stays, and what is kept does not hang on it.
     tasks, chains, bounds = list(TASKS_A), [(1, [2, 1, 1])], [12, 0, 0, 0]
     held = (2, tasks, 1, chains, 0, bounds)
     kept = (2, ((1, 4, 4, 0), (2, 6, 6, 0)), 1, ((1, (2,)),), 0, (12,))
     _ok, made = ref.make_state(held)
-    _answer, asked = ref.ask(made, 1, held)
-    _answer, both = ref.ask(asked, 2, held)
+    _answer, asked = ref.ask(made, held)
     same(held, (2, [(1, 4, 4, 0), (2, 6, 6, 0)], 1, [(1, [2, 1, 1])], 0,
                 [12, 0, 0, 0]), "what is given stays")
     tasks[0], chains[0][1][0], bounds[0] = (1, 5, 5, 0), 1, 99
-    same((made, asked, both),
-         ((kept, None, None), (kept, kept, None), (kept, kept, kept)),
-         "what is kept stays")
-    same(ref.commit(both, 1, held), (("refused", 23, 0), (kept, kept, kept)),
+    same((made, asked), ((kept, None), (kept, kept)), "what is kept stays")
+    same(ref.commit(asked, held), (("refused", 23, 0), (kept, kept)),
          "what is given became another")
 
 
@@ -5868,13 +5800,9 @@ def group_state_refusals(rng):
             check_ask_and_make(held, expected, states, what)
             # A commit looks for no fault.
             for state in states:
-                same(ref.commit(state, 1, held),
+                same(ref.commit(state, held),
                      (("refused", 22 if state[1] is None else 23, 0), state),
                      "commit, " + what)
-                same(ref.commit(state, 2, held),
-                     (("refused", 25, 0), state), "commit, " + what)
-                same(ref.commit(state, next(NO_PARTY), held),
-                     (("refused", 24, 0), state), "commit, " + what)
     same(set(met), {None, 8, 5, 6, 7, 21}, "every refusal was met")
     # The faults of a schedule at large, with any numbers for the bounds.
     for _ in range(600):
@@ -5885,9 +5813,7 @@ def group_state_refusals(rng):
         held = (*arguments, [any_number(rng) for _ in range(4)])
         check_ask_and_make(held, fault, states[:3], "%r" % (held,))
         for state in states:
-            for party in (1, 2, next(NO_PARTY)):
-                same(ref.commit(state, party, held)[1], state,
-                     "commit of a fault")
+            same(ref.commit(state, held)[1], state, "commit of a fault")
     # 7 is each chain's own.  H 60,000,000 passes and one more does not.
     primes = [(1, 999_983, 7, 0), (2, 999_979, 5, 3), (3, 151, 1, 0),
               (4, 397_351, 1, 0), (5, 800_000, 2, 0), (6, 937_500, 1, 0),
@@ -6007,21 +5933,17 @@ def group_what_is_named(rng):
     for held, latencies in helds:
         form = written_out(held)
         same(ref.named(held), form, "named")
-        # The tablet's proposal has no part in a commit, here the same one.
-        made = (running, None, form)
-        after = (running, form, form)
-        same(ref.ask(made, 1, held), (("ok", latencies), after), "asked")
+        after = (running, form)
+        same(ref.ask((running, None), held), (("ok", latencies), after),
+             "asked")
         # What lies past a count does not matter, in no call.
         for _ in range(12):
             again = with_other_junk(rng, held)
             same(ref.named(again), form, "past a count")
-            same(ref.make_state(again), ("ok", (form, None, None)),
+            same(ref.make_state(again), ("ok", (form, None)), "past a count")
+            same(ref.ask((running, None), again), (("ok", latencies), after),
                  "past a count")
-            same(ref.ask(made, 1, again), (("ok", latencies), after),
-                 "past a count")
-            same(ref.ask((running, None, running), 2, again),
-                 (("ok", latencies), made), "past a count")
-            same(ref.commit(after, 1, again), (("ok",), (form, None, None)),
+            same(ref.commit(after, again), (("ok",), (form, None)),
                  "past a count")
         # All else does.
         for changed in single_changes(held):
@@ -6030,16 +5952,9 @@ def group_what_is_named(rng):
                 changed = with_other_junk(rng, changed)
             same(alike(changed, held), False, "changed")
             same(ref.named(changed) == form, False, "changed")
-            same(ref.commit(after, 1, changed), (("refused", 23, 0), after),
+            same(ref.commit(after, changed), (("refused", 23, 0), after),
                  "changed")
-            # Nor does it help that the tablet proposes just that.
-            beside = (running, form, written_out(changed))
-            same(ref.commit(beside, 1, changed),
-                 (("refused", 23, 0), beside), "changed")
-            same(ref.named_call(("ask", 2, changed))
-                 == ref.named_call(("ask", 2, held)), False, "changed")
-        same(ref.commit(after, 1, other), (("refused", 23, 0), after),
-             "other")
+        same(ref.commit(after, other), (("refused", 23, 0), after), "other")
     same(changes > 3_000, True, "many changes")
     # The same numbers one after the other, counted in another way.
     three = [(1, 2, 2, 0), (2, 2, 2, 0), (3, 2, 2, 0)]
@@ -6057,9 +5972,8 @@ def group_what_is_named(rng):
         same(ref.named(first) == ref.named(second), first is second,
              "counted in another way")
     for first, second in itertools.product(ways[:7], repeat=2):
-        _answer, asked = ref.ask((running, None, None), 1, first)
-        _answer, asked = ref.ask(asked, 2, second)
-        same(ref.commit(asked, 1, second)[0],
+        _answer, asked = ref.ask((running, None), first)
+        same(ref.commit(asked, second)[0],
              ("ok",) if first is second else ("refused", 23, 0),
              "counted in another way")
     for count, which, places in itertools.product(
@@ -6070,11 +5984,11 @@ def group_what_is_named(rng):
         good = count <= 32 and which <= 4 and places <= 12
         expected = ("ok", [2 + 2 * places] * which) if good \
             else ("refused", 8, 0)
-        check_ask_and_make(held, expected, [(running, None, None)],
+        check_ask_and_make(held, expected, [(running, None)],
                            "counts %d, %d, %d" % (count, which, places))
-        asked = ref.ask((running, None, None), 1,
+        asked = ref.ask((running, None),
                         (32, tasks, 4, [(12, [1] * 12)] * 4, 0, [26] * 4))[1]
-        same(ref.commit(asked, 1, held)[0],
+        same(ref.commit(asked, held)[0],
              ("ok",) if (count, which, places) == (32, 4, 12)
              else ("refused", 23, 0),
              "counts %d, %d, %d" % (count, which, places))
@@ -6113,8 +6027,7 @@ def group_asks(rng):
             bounds += [any_number(rng) for _ in range(4 - count)]
             expected = ("refused", 21, 0) if -1 in way else ("ok", latencies)
             check_ask_and_make((*held[:5], bounds), expected,
-                               [(running, None, None)],
-                               "bounds %r" % bounds)
+                               [(running, None)], "bounds %r" % bounds)
         # A single bound too low, in each chain by itself, and all of it.
         for which in range(count):
             for low in (0, rng.randrange(latencies[which]),
@@ -6122,11 +6035,10 @@ def group_asks(rng):
                 bounds = [HIGHEST] * 4
                 bounds[which] = low
                 check_ask_and_make((*held[:5], bounds), ("refused", 21, 0),
-                                   [(running, None, None)],
-                                   "bounds %r" % bounds)
+                                   [(running, None)], "bounds %r" % bounds)
         for bound in WIDE:
             check_ask_and_make((*held[:5], [bound] * 4), ("ok", latencies),
-                               [(running, None, None)], "bound %d" % bound)
+                               [(running, None)], "bound %d" % bound)
         # Each chain by itself, and values that travel.
         for which, latency in enumerate(latencies):
             chain = places_of(held, which)
@@ -6152,12 +6064,11 @@ def group_asks_large(rng):
     # Each link has the gap and waits a period less a tick: 1 + 48 million
     # and 11 times 1,000 + 999,999.  With one task it is 11 whole periods.
     check_ask_and_make(held, ("ok", [60_010_989, 60_000_000]),
-                       [(running, None, None)], "longest")
+                       [(running, None)], "longest")
     for bounds in ([60_010_988, HIGHEST], [HIGHEST, 59_999_999],
                    [2 ** 32, 0]):
         check_ask_and_make((*held[:5], bounds + [0, 0]),
-                           ("refused", 21, 0), [(running, None, None)],
-                           "longest")
+                           ("refused", 21, 0), [(running, None)], "longest")
 
     def greatest(chain, gap):
         if len({T for T, _D, _F in chain}) == 1:
@@ -6185,22 +6096,19 @@ def group_asks_large(rng):
                 chains.append(rng.sample([11, 12, 13, 65_535], 2))
         held = with_bounds(tasks, chains, gap, [HIGHEST] * len(chains))
         expected = judged(held, greatest)
-        check_ask_and_make(held, expected, [(running, None, None)],
-                           "%r" % (held,))
+        check_ask_and_make(held, expected, [(running, None)], "%r" % (held,))
         latencies = expected[1]
         bounds = [one - rng.choice([0, 0, 0, 1]) for one in latencies]
         held = with_other_junk(rng, with_bounds(tasks, chains, gap, bounds))
         expected = judged(held, greatest)
-        check_ask_and_make(held, expected, [(running, None, None)],
-                           "%r" % (held,))
+        check_ask_and_make(held, expected, [(running, None)], "%r" % (held,))
         met[expected[0]] = met.get(expected[0], 0) + 1
     for kind in ("ok", "refused"):
         same(met.get(kind, 0) > 50, True, "often met: " + kind)
 
 
 def group_all_short_lists(_rng):
-    """Every list of up to 4 calls of the firmware, and what runs from its
-    letters alone.
+    """Every list of up to 4 calls, and what runs from its letters alone.
 
     A small letter asks, the large one commits.  Of p, q and r each is
     accepted; x is above its bound and y is faulty.  A commit P is refused
@@ -6231,7 +6139,7 @@ def group_all_short_lists(_rng):
         return max(ends)[1], stands[-1]
 
     made = ref.make_state(helds[first])
-    same(made, ("ok", (forms[first], None, None)), "made")
+    same(made, ("ok", (forms[first], None)), "made")
     before = {"": made[1]}
     for length in range(1, 5):
         after = {}
@@ -6242,16 +6150,15 @@ def group_all_short_lists(_rng):
                 _runs, stood = run_and_proposal(text)
                 if letter.islower():
                     expected = answers[letter]
-                    found = ref.ask(state, 1, held)
+                    found = ref.ask(state, held)
                 else:
                     expected = ("refused", 22, 0) if stood is None \
                         else ("ok",) if stood == letter.lower() \
                         else ("refused", 23, 0)
-                    found = ref.commit(state, 1, held)
+                    found = ref.commit(state, held)
                 runs, stands = run_and_proposal(longer)
                 same(found, (expected, (forms[runs],
-                                        forms[stands] if stands else None,
-                                        None)),
+                                        forms[stands] if stands else None)),
                      longer)
                 after[longer] = found[1]
         before = after
@@ -6259,20 +6166,18 @@ def group_all_short_lists(_rng):
 
 
 def state_of_log(first, log):
-    """What runs and what each party proposes, from the calls so far alone.
+    """What runs and what is proposed, from the calls so far alone.
 
     The running one is that of the last commit not refused, or the first.
-    A party's proposal is that of its last ask not refused since then.  The
-    log has no reads and no calls of other parties.
+    The proposal is that of the last ask not refused since then.
     """
-    commits = [at for at, (call, _party, _held, was_refused)
-               in enumerate(log) if call == "commit" and not was_refused]
+    commits = [at for at, (call, _held, was_refused) in enumerate(log)
+               if call == "commit" and not was_refused]
     since = commits[-1] + 1 if commits else 0
-    asks = {1: [None], 2: [None]}
-    for call, party, held, was_refused in log[since:]:
-        if call == "ask" and not was_refused:
-            asks[party].append(held)
-    return log[commits[-1]][2] if commits else first, asks[1][-1], asks[2][-1]
+    asks = [held for call, held, was_refused in log[since:]
+            if call == "ask" and not was_refused]
+    return log[commits[-1]][1] if commits else first, \
+        asks[-1] if asks else None
 
 
 def pool_of_helds(rng):
@@ -6309,1030 +6214,56 @@ def pool_of_helds(rng):
     return pool
 
 
-KNOWN_TABLES = {}
-
-
-def literal_table(tasks, gap):
-    """Anchors, x0, H and the walked number by literal walks, each chain once.
-
-    With the cut at the longest period one partition is walked for each
-    multiple of it up to H.
-    """
-    key = (tuple(tasks), gap)
-    if key not in KNOWN_TABLES:
-        x0 = tasks[0][2] + literal_warm_up(tasks, gap)[0] * tasks[0][0]
-        H = literal_hyperperiod(tasks)
-        found = anchors_from_delays(
-            [literal_delay(tasks, gap, x0 + offset) for offset in range(H)],
-            x0)
-        longest = max(T for T, _D, _F in tasks)
-        walked = sum(1 for tick in range(1, H + 1) if tick % longest == 0)
-        KNOWN_TABLES[key] = (found, x0, H, walked)
-    return KNOWN_TABLES[key]
-
-
-def table_by_bookings(tasks, gap):
-    """The same at any values, with forward steps alone, which divide.
-
-    Jobs of the first place that end with one booking stand together.  The
-    last of those that end with job 0's is W1, since no booking is earlier.
-    From its read on, and from that of each later last one, a press takes the
-    booking of those that stand next.
-    """
-    first_T, first_D, first_F = tasks[0]
-
-    def end_of(job):
-        write = first_F + job * first_T + first_D
-        for T, D, F in tasks[1:]:
-            write = F + max(0, -((F - write - gap) // T)) * T + D
-        return write
-
-    # Job W1 ends as job 0, and the job after it does not.
-    below, above = 0, 1
-    while end_of(above) == end_of(0):
-        below, above = above, 2 * above
-    while above - below > 1:
-        middle = (below + above) // 2
-        if end_of(middle) == end_of(0):
-            below = middle
-        else:
-            above = middle
-    H = math.lcm(*[T for T, _D, _F in tasks])
-    found = []
-    for job in range(below, below + H // first_T):
-        if end_of(job) != end_of(job + 1):
-            read = first_F + job * first_T
-            found.append((read, end_of(job + 1) - read))
-    walked = min(H // T for T, _D, _F in tasks)
-    return (found, first_F + below * first_T, H, walked)
-
-
-def expected_read(state, party, n, starts, latencies, table=literal_table):
-    """What a read answers and leaves, without the program."""
-    running = state[0]
-    lists = list(starts), list(latencies)
-    if party not in (1, 2):
-        return (("refused", 24, 0), *lists)
-    fault = listed_fault(*running[:5])
-    if fault is not None:
-        return (fault, *lists)
-    if n not in range(1, running[2] + 1):
-        return (("refused", 16, 0), *lists)
-    tasks = places_of(running, n - 1)
-    if is_7(tasks):
-        return (("refused", 7, 0), *lists)
-    if len(starts) != len(latencies):
-        return (("refused", 10, 0), *lists)
-    found, x0, H, walked = table(tasks, running[4])
-    for at, (start, latency) in enumerate(found):
-        if at < len(starts):
-            lists[0][at], lists[1][at] = start, latency
-    if len(starts) < len(found):
-        return (("refused", 11, 0, len(found), x0, H, walked), *lists)
-    return (("ok", running, state[party], len(found), x0, H, walked), *lists)
-
-
-def check_read(state, party, n, starts, latencies, expected, what):
-    """One read: its answer, what it leaves, and that what is lent stays."""
-    lent = list(starts), list(latencies)
-    found = ref.read(state, party, n, starts, latencies)
-    same(found, expected, "read of %d, chain %d, %s" % (party, n, what))
-    same((list(starts), list(latencies)), lent, "the lists given stay")
-    same((type(found[1]), type(found[2])), (list, list), "lists are given")
-
-
-def lent_lists(rng, starts, latencies):
-    """Two lists of these lengths with any numbers in them."""
-    return ([any_number(rng) for _ in range(starts)],
-            [any_number(rng) for _ in range(latencies)])
-
-
 def group_lists_of_calls(rng):
     """Random lists of calls, and the state from a log of them alone."""
     met = {}
-    for turn in range(300):
+    for turn in range(150):
         pool = pool_of_helds(rng)
         first = rng.choice([held for held in pool
                             if judged(held)[0] == "ok"])
         made = ref.make_state(first)
-        same(made, ("ok", (written_out(first), None, None)), "made")
+        same(made, ("ok", (written_out(first), None)), "made")
         state = made[1]
         log = []
-        # The firmware alone, and with the tablet and others.
-        parties = [1] if turn % 3 == 0 else [1, 1, 1, 2, 2, 2, 0, HIGHEST]
-        for number in range(rng.choice([5, 20, 40])):
-            running, *proposals = state_of_log(first, log)
-            party = rng.choice(parties)
-            call = rng.choice(["ask", "ask", "commit", "commit", "read"])
-            what = "list %d, call %d, %s of %d" % (turn, number + 1, call,
-                                                   party)
-            if call == "read":
-                n = rng.choice([0, 1, 1, 2, 3, 4, 5, HIGHEST])
-                lists = lent_lists(rng, *rng.choice(
-                    [(9, 9), (9, 9), (1, 1), (0, 0), (2, 2), (3, 2)]))
-                expected = expected_read(
-                    (written_out(running),
-                     *[None if one is None else written_out(one)
-                       for one in proposals]), party, n, *lists)
-                check_read(state, party, n, *lists, expected, what)
-                kind = (call, party, expected[0][1]
-                        if expected[0][0] == "refused" else "ok")
-                met[kind] = met.get(kind, 0) + 1
-                continue
-            standing = [one for one in proposals if one is not None]
-            if standing and rng.random() < 0.25:
-                held = rng.choice(standing)
+        for _ in range(rng.choice([5, 20, 40])):
+            running, proposal = state_of_log(first, log)
+            if proposal is not None and rng.random() < 0.25:
+                held = proposal
             else:
                 held = rng.choice(pool)
             if rng.random() < 0.5:
                 held = with_other_junk(rng, held)
-            if party not in (1, 2):
-                expected = ("refused", 24, 0)
-            elif call == "ask":
+            if rng.random() < 0.5:
+                call = "ask"
                 expected = judged(held)
-            elif party == 2:
-                expected = ("refused", 25, 0)
+                found, after = ref.ask(state, held)
             else:
-                expected = ("refused", 22, 0) if proposals[0] is None \
-                    else ("ok",) if alike(proposals[0], held) \
+                call = "commit"
+                expected = ("refused", 22, 0) if proposal is None \
+                    else ("ok",) if alike(proposal, held) \
                     else ("refused", 23, 0)
-            found, after = {"ask": ref.ask, "commit": ref.commit}[call](
-                state, party, held)
+                found, after = ref.commit(state, held)
+            what = "list %d, call %d, %s" % (turn, len(log) + 1, call)
             same(found, expected, what)
             was_refused = expected[0] == "refused"
             if was_refused:
                 same(after, state, what + ", refused")
-            log.append((call, party, held, was_refused))
-            kind = (call, party, expected[1] if was_refused else "ok")
+            log.append((call, held, was_refused))
+            kind = (call, expected[1] if was_refused else "ok")
             met[kind] = met.get(kind, 0) + 1
-            same(after, tuple(None if one is None else written_out(one)
-                              for one in state_of_log(first, log)), what)
-            # What runs meets its own bounds, and so would the proposals.
+            running, proposal = state_of_log(first, log)
+            same(after, (written_out(running),
+                         None if proposal is None else written_out(proposal)),
+                 what)
+            # What runs meets its own bounds, and so would the proposal.
             for one in after:
                 if one is not None:
                     same(judged(one)[0], "ok", what + ", bounds")
             state = after
-    for kind in [*[("ask", party, answer) for party in (1, 2)
-                   for answer in ("ok", 8, 5, 6, 7, 21)],
-                 ("commit", 1, "ok"), ("commit", 1, 22), ("commit", 1, 23),
-                 ("commit", 2, 25), ("ask", 0, 24), ("ask", HIGHEST, 24),
-                 ("commit", 0, 24), ("commit", HIGHEST, 24),
-                 *[("read", party, answer) for party in (1, 2)
-                   for answer in ("ok", 16, 10, 11)], ("read", 0, 24)]:
-        same(met.get(kind, 0) > 15, True, "often met: %s %d %s" % kind)
-
-
-# ---------------------------------------------------------------------------
-# Firmware and tablet, order 11
-# ---------------------------------------------------------------------------
-
-# Tables by hand of the chains above: anchors, warm-up tick, hyperperiod and
-# walked number.  The bookings are those beside the latencies there.  Where a
-# press at 0 and one at 4 have a way in common, warm-up is at 4.
-TABLES_BY_HAND = {
-    0: {(1,): ([(0, 8)], 0, 4, 1), (2,): ([(0, 12)], 0, 6, 1),
-        (1, 2): ([(0, 18), (8, 16)], 0, 12, 2),
-        (2, 1): ([(0, 16), (6, 18)], 0, 12, 2),
-        (1, 1): ([(0, 12)], 0, 4, 1),
-        (1, 2, 1): ([(0, 24), (8, 20)], 0, 12, 2)},
-    1: {(1,): ([(0, 8)], 0, 4, 1), (2,): ([(0, 12)], 0, 6, 1),
-        (1, 2): ([(0, 18), (4, 20)], 0, 12, 2),
-        (2, 1): ([(0, 20), (6, 18)], 0, 12, 2),
-        (1, 1): ([(0, 16)], 0, 4, 1),
-        (1, 2, 1): ([(0, 24), (4, 28)], 0, 12, 2)},
-    1_000: {(1,): ([(0, 8)], 0, 4, 1), (2,): ([(0, 12)], 0, 6, 1),
-            # Jobs 0 and 1 both reach the read at 1,008, so W1 is 1.
-            # 12: 16, 20, 1,020, 1,026.
-            (1, 2): ([(4, 1_016), (8, 1_018)], 4, 12, 2),
-            (2, 1): ([(0, 1_016), (6, 1_018)], 0, 12, 2),
-            (1, 1): ([(0, 1_012)], 0, 4, 1),
-            # Again jobs 0 and 1, and 12: 16, 20, 1,020, 1,026, 2,028, 2,032.
-            (1, 2, 1): ([(4, 2_020), (8, 2_024)], 4, 12, 2)},
-}
-
-
-def group_reads_by_hand(_rng):
-    A = [[1, 2], [2]]
-    plain = (2, ((1, 4, 4, 0), (2, 6, 6, 0)), 2, ((2, (1, 2)), (1, (2,))), 0,
-             (18, 12))
-    gapped = (2, ((1, 4, 4, 0), (2, 6, 6, 0)), 2, ((2, (1, 2)), (1, (2,))), 1,
-              (20, 13))
-    single = (1, ((2, 6, 6, 0),), 1, ((1, (2,)),), 0, (12,))
-    a_plain = with_bounds(TASKS_A, A, 0, [18, 12])
-    a_gapped = with_bounds(TASKS_A, A, 1, [20, 13])
-    a_single = with_bounds(TASKS_A[1:], [[2]], 0, [12])
-    tight = with_bounds(TASKS_A, A, 1, [19, 13])
-    no = {number: ("refused", number, 0)
-          for number in (10, 16, 21, 22, 23, 24, 25)}
-    # Each call, its answer and the state after it.  Of a read the lists are
-    # in the answer; junk in them is 5, 6 and 7.
-    way = [
-        (("read", 1, 1, [5, 5, 5], [6, 6, 6]),
-         (("ok", plain, None, 2, 0, 12, 2), [0, 8, 5], [18, 16, 6]),
-         (plain, None, None)),
-        (("read", 2, 1, [5, 5, 5], [6, 6, 6]),
-         (("ok", plain, None, 2, 0, 12, 2), [0, 8, 5], [18, 16, 6]),
-         (plain, None, None)),
-        (("read", 2, 2, [5], [6]),
-         (("ok", plain, None, 1, 0, 6, 1), [0], [12]), (plain, None, None)),
-        (("ask", 2, a_gapped), ("ok", [20, 12]), (plain, None, gapped)),
-        # The proposal is the tablet's and not the firmware's.
-        (("commit", 1, a_gapped), no[22], (plain, None, gapped)),
-        (("commit", 2, a_gapped), no[25], (plain, None, gapped)),
-        (("commit", 0, a_gapped), no[24], (plain, None, gapped)),
-        (("commit", 3, a_gapped), no[24], (plain, None, gapped)),
-        (("read", 1, 1, [5, 7], [6, 7]),
-         (("ok", plain, None, 2, 0, 12, 2), [0, 8], [18, 16]),
-         (plain, None, gapped)),
-        # Its proposal does not run yet, so the table is that of gap 0.
-        (("read", 2, 1, [5, 7], [6, 7]),
-         (("ok", plain, gapped, 2, 0, 12, 2), [0, 8], [18, 16]),
-         (plain, None, gapped)),
-        (("ask", 1, a_single), ("ok", [12]), (plain, single, gapped)),
-        (("commit", 1, a_gapped), no[23], (plain, single, gapped)),
-        (("commit", 2, a_single), no[25], (plain, single, gapped)),
-        (("ask", 2, tight), no[21], (plain, single, gapped)),
-        (("ask", 3, a_plain), no[24], (plain, single, gapped)),
-        (("ask", 0, tight), no[24], (plain, single, gapped)),
-        (("read", 1, 2, [], []), (("refused", 11, 0, 1, 0, 6, 1), [], []),
-         (plain, single, gapped)),
-        (("read", 1, 1, [5], [6]),
-         (("refused", 11, 0, 2, 0, 12, 2), [0], [18]),
-         (plain, single, gapped)),
-        (("read", 2, 1, [5], [6]),
-         (("refused", 11, 0, 2, 0, 12, 2), [0], [18]),
-         (plain, single, gapped)),
-        (("read", 2, 1, [5, 5], [6]), (no[10], [5, 5], [6]),
-         (plain, single, gapped)),
-        (("read", 2, 3, [5, 5], [6]), (no[16], [5, 5], [6]),
-         (plain, single, gapped)),
-        (("read", 1, 0, [5, 5], [6, 6]), (no[16], [5, 5], [6, 6]),
-         (plain, single, gapped)),
-        (("read", 3, 1, [5, 5], [6, 6]), (no[24], [5, 5], [6, 6]),
-         (plain, single, gapped)),
-        (("read", 0, 3, [5], [6, 6]), (no[24], [5], [6, 6]),
-         (plain, single, gapped)),
-        (("read", 1, 2, [5], [6]),
-         (("ok", plain, single, 1, 0, 6, 1), [0], [12]),
-         (plain, single, gapped)),
-        # The tablet now asks for the same.  The commit clears both.
-        (("ask", 2, a_single), ("ok", [12]), (plain, single, single)),
-        (("commit", 1, a_single), ("ok",), (single, None, None)),
-        (("commit", 1, a_single), no[22], (single, None, None)),
-        (("commit", 2, a_single), no[25], (single, None, None)),
-        (("read", 2, 1, [5], [6]),
-         (("ok", single, None, 1, 0, 6, 1), [0], [12]),
-         (single, None, None)),
-        # The chain that was number 2 is number 1, and there is no other.
-        (("read", 2, 2, [5], [6]), (no[16], [5], [6]),
-         (single, None, None)),
-        (("ask", 1, a_gapped), ("ok", [20, 12]), (single, gapped, None)),
-        (("ask", 2, a_plain), ("ok", [18, 12]), (single, gapped, plain)),
-        (("commit", 1, a_plain), no[23], (single, gapped, plain)),
-        (("commit", 1, a_gapped), ("ok",), (gapped, None, None)),
-        (("read", 1, 1, [5, 5, 7], [6, 6, 7]),
-         (("ok", gapped, None, 2, 0, 12, 2), [0, 4, 7], [18, 20, 7]),
-         (gapped, None, None)),
-        (("ask", 1, tight), no[21], (gapped, None, None)),
-        (("ask", 1, a_plain), ("ok", [18, 12]), (gapped, plain, None)),
-        (("ask", 2, tight), no[21], (gapped, plain, None)),
-        (("read", 2, 1, [5], [6]),
-         (("refused", 11, 0, 2, 0, 12, 2), [0], [18]),
-         (gapped, plain, None)),
-        (("ask", 2, a_gapped), ("ok", [20, 12]), (gapped, plain, gapped)),
-        (("read", 2, 1, [5, 7], [6, 7]),
-         (("ok", gapped, gapped, 2, 0, 12, 2), [0, 4], [18, 20]),
-         (gapped, plain, gapped)),
-        (("read", 1, 1, [5, 7], [6, 7]),
-         (("ok", gapped, plain, 2, 0, 12, 2), [0, 4], [18, 20]),
-         (gapped, plain, gapped)),
-        # An earlier proposal of the tablet is gone, the firmware's is not.
-        (("ask", 2, a_single), ("ok", [12]), (gapped, plain, single)),
-        (("commit", 1, a_plain), ("ok",), (plain, None, None)),
-    ]
-    calls_to = {"ask": ref.ask, "commit": ref.commit}
-    state = (plain, None, None)
-    same(ref.make_state(a_plain), ("ok", state), "made")
-    for turn, (call, answer, after) in enumerate(way):
-        what = "call %d" % (turn + 1)
-        name, party, *rest = call
-        if name == "read":
-            check_read(state, party, *rest, answer, what)
-        else:
-            same(calls_to[name](state, party, *rest), (answer, after), what)
-        same(ref.made_call(state, call), (answer, after), what)
-        state = after
-    calls = [call for call, _answer, _after in way]
-    for length in range(len(way) + 1):
-        state = way[length - 1][2] if length else (plain, None, None)
-        same(ref.run_calls((plain, None, None), calls[:length]),
-             ([(call, answer) for call, answer, _after in way[:length]],
-              state), "the first %d calls" % length)
-    # The two laws of this list: what the firmware has without the tablet,
-    # and the tablet's calls with the three commits that are not refused.
-    kept = [at for at, call in enumerate(calls) if call[1] != 2]
-    same(ref.without_tablet(calls), [calls[at] for at in kept], "without")
-    answered, last = ref.run_calls((plain, None, None),
-                                   ref.without_tablet(calls))
-    same(answered, [(calls[at], way[at][1]) for at in kept], "without")
-    same(last, (plain, None, None), "without")
-    same(ref.tablet_events((plain, None, None), calls),
-         [("read", 2, 1, (5, 5, 5), (6, 6, 6)), ("read", 2, 2, (5,), (6,)),
-          ("ask", 2, gapped), ("commit", 2, gapped),
-          ("read", 2, 1, (5, 7), (6, 7)), ("commit", 2, single),
-          ("ask", 2, ref.named(tight)), ("read", 2, 1, (5,), (6,)),
-          ("read", 2, 1, (5, 5), (6,)), ("read", 2, 3, (5, 5), (6,)),
-          ("ask", 2, single), ("commit", 1, single), ("commit", 2, single),
-          ("read", 2, 1, (5,), (6,)), ("read", 2, 2, (5,), (6,)),
-          ("ask", 2, plain), ("commit", 1, gapped),
-          ("ask", 2, ref.named(tight)), ("read", 2, 1, (5,), (6,)),
-          ("ask", 2, gapped), ("read", 2, 1, (5, 7), (6, 7)),
-          ("ask", 2, single), ("commit", 1, plain)], "events")
-    same(ref.without_tablet([]), [], "no call")
-    same(ref.tablet_events((plain, None, None), []), [], "no call")
-    same(ref.run_calls((plain, single, None), []),
-         ([], (plain, single, None)), "no call")
-    # A commit is judged in the state in which it is made.
-    commit = ("commit", 1, a_single)
-    event = ("commit", 1, single)
-    for state, calls, events in (
-            ((plain, None, None), [commit], []),
-            ((plain, None, single), [commit], []),
-            ((plain, plain, single), [commit], []),
-            ((plain, single, None), [commit], [event]),
-            ((plain, single, None), [commit, commit], [event]),
-            ((plain, single, None), [("ask", 1, a_plain), commit], []),
-            ((plain, single, None), [("ask", 1, tight), commit], [event]),
-            ((plain, single, None), [("ask", 3, a_plain), commit], [event]),
-            ((plain, single, None), [("commit", 0, a_single), commit],
-             [event]),
-            ((plain, None, None), [("ask", 1, a_single), commit], [event]),
-            ((plain, None, None), [commit, ("ask", 1, a_single)], []),
-            ((plain, None, None), [("ask", 2, a_single), commit],
-             [("ask", 2, single)]),
-            ((plain, single, None), [("commit", 2, a_single), commit],
-             [("commit", 2, single), event]),
-            ((plain, single, None), [commit, ("read", 2, 1, [4], [])],
-             [event, ("read", 2, 1, (4,), ())]),
-            ((plain, single, None), [("read", 1, 1, [4], []),
-                                     ("read", 0, 1, [4], [])], [])):
-        same(ref.tablet_events(state, calls), events, "%r" % (calls,))
-    # Tables by hand at every length of the lists, for both parties.
-    both = {1: single, 2: None}
-    for gap, tables in TABLES_BY_HAND.items():
-        for count in (1, 2, 3, 4):
-            for chains in itertools.permutations(tables, count):
-                if count == 4 and chains[0] != (1, 2):
-                    continue
-                running = written_out(with_bounds(
-                    TASKS_A, chains, gap,
-                    [BY_HAND[gap][chain] for chain in chains]))
-                state = (running, both[1], both[2])
-                for n, chain in enumerate(chains, start=1):
-                    found, x0, H, walked = tables[chain]
-                    g = len(found)
-                    same(max(one for _start, one in found),
-                         BY_HAND[gap][chain], "the greatest is by hand")
-                    for length in range(4) if count < 3 else (g, g - 1):
-                        starts, latencies = [7] * length, [9] * length
-                        for at in range(min(g, length)):
-                            starts[at], latencies[at] = found[at]
-                        for party in (1, 2):
-                            answer = ("ok", running, both[party], g, x0, H,
-                                      walked)
-                            if length < g:
-                                answer = ("refused", 11, 0, g, x0, H, walked)
-                            check_read(state, party, n, [7] * length,
-                                       [9] * length,
-                                       (answer, starts, latencies),
-                                       "%r gap %d" % (chains, gap))
-    # The examples B, C and D, and D with both in one schedule.
-    tasks = [(1, 10, 3, 5), (2, 5, 5, 0), (3, 10, 2, 0), (4, 10, 1, 95)]
-    for gap, expected in (
-            (0, [(5, 13, 5, 10), (0, 15, 0, 5), (90, 16, 90, 10)]),
-            # C with gap 1 is (0, 20).  With D's a write at 92 + 3 just fits.
-            (1, [(5, 13, 5, 10), (0, 20, 0, 5), (90, 16, 90, 10)]),
-            (3, [(5, 13, 5, 10), (0, 20, 0, 5), (90, 16, 90, 10)]),
-            (4, [(5, 13, 5, 10), (0, 20, 0, 5), (80, 26, 80, 10)])):
-        running = written_out(with_bounds(tasks, [[1], [2, 2], [3, 4]], gap,
-                                          [13, 20, 26]))
-        for n, (start, latency, x0, H) in enumerate(expected, start=1):
-            walked = 1
-            check_read((running, None, running), 2, n, (8, 8), (9, 9),
-                       (("ok", running, running, 1, x0, H, walked),
-                        [start, 8], [latency, 9]), "gap %d" % gap)
-            check_read((running, None, running), 1, n, (), (),
-                       (("refused", 11, 0, 1, x0, H, walked), [], []),
-                       "gap %d" % gap)
-    # The cut at the longest period: 1,000,000 ticks, a tick, 500,000 ticks.
-    tasks = [(1, 1_000_000, 1, 0), (2, 1, 1, 0), (3, 500_000, 1, 2)]
-    running = written_out(with_bounds(tasks, [[2, 1], [1, 2], [2, 1, 3]], 0,
-                                      [HIGHEST] * 3))
-    for n, expected in (
-            # A value of the tick before: from 999,999 to 2,000,001.
-            (1, ([(999_999, 1_000_002)], 999_999)),
-            (2, ([(0, 1_000_002)], 0)),
-            # Written at 1,000,001, read at 1,000,002.
-            (3, ([(999_999, 1_000_004)], 999_999))):
-        check_read((running, None, None), 1, n, [4, 4], [4, 4],
-                   (("ok", running, None, 1, expected[1], 1_000_000, 1),
-                    [expected[0][0][0], 4], [expected[0][0][1], 4]),
-                   "a long period")
-    # A state of zeros is 8 at any number with any lists, after 24.
-    for n in (0, 1, 2, HIGHEST):
-        for lists in (([], []), ([1], []), ([1, 2], [3, 4])):
-            for party in (1, 2):
-                check_read(ref.STATE_OF_ZEROS, party, n, *lists,
-                           (("refused", 8, 0), *lists), "zeros")
-            for party in NO_PARTIES:
-                check_read(ref.STATE_OF_ZEROS, party, n, *lists,
-                           (("refused", 24, 0), *lists), "zeros")
-
-
-def group_reads(rng):
-    """Reads by literal walks, with lists of all lengths."""
-    met = {}
-    for turn in range(100):
-        count = 1 + turn % 4
-        held, latencies = small_held(rng, count)
-        running = written_out(held)
-        others = [written_out(small_held(rng, rng.randint(1, 2))[0])
-                  for _ in range(2)]
-        state = (running, rng.choice([None, running, others[0]]),
-                 rng.choice([None, others[0], others[1]]))
-        what = "%r" % (running,)
-        for n in range(1, count + 1):
-            tasks = places_of(running, n - 1)
-            gap = running[4]
-            found, x0, H, walked = literal_table(tasks, gap)
-            g = len(found)
-            same(table_by_bookings(tasks, gap), (found, x0, H, walked),
-                 "by bookings, " + what)
-            # The table's greatest latency is what an ask gives.
-            same(max(one for _start, one in found), latencies[n - 1],
-                 "as an ask, " + what)
-            for length in range(g + 3):
-                for party in (1, 2):
-                    lists = lent_lists(rng, length, length)
-                    if rng.random() < 0.2:
-                        lists = tuple(lists[0]), tuple(lists[1])
-                    expected = expected_read(state, party, n, *lists)
-                    check_read(state, party, n, *lists, expected, what)
-                    kind = expected[0][:2] if length < g else "ok"
-                    met[kind] = met.get(kind, 0) + 1
-            # Every tick, by the table that was read.
-            answer, starts, found_latencies = ref.read(
-                state, 2, n, *lent_lists(rng, g + 1, g + 1))
-            same([ref.read_table(starts, found_latencies, answer[3],
-                                 answer[5], x0 + offset)
-                  for offset in range(2 * H)],
-                 [("ok", literal_delay(tasks, gap, x0 + offset))
-                  for offset in range(2 * H)], "every tick, " + what)
-            # The same as a making from the schedule with that cut.
-            periods = [T for T, _D, _F in tasks]
-            for p in range(1, len(tasks) + 1):
-                if periods[p - 1] == max(periods):
-                    made = ref.make_of(*held[:5], n, p, [3] * g, [4] * g)
-                    found_read = ref.read(state, 1, n, [3] * g, [4] * g)
-                    same((found_read[0][3:], *found_read[1:]),
-                         (made[0][1:], *made[1:]), "a making, " + what)
-                elif H // periods[p - 1] != walked:
-                    met["another cut"] = met.get("another cut", 0) + 1
-            # Unequal lengths, at all lengths up to g + 1, leave them.
-            for lengths in itertools.permutations(range(g + 2), 2):
-                lists = lent_lists(rng, *lengths)
-                check_read(state, rng.choice([1, 2]), n, *lists,
-                           (("refused", 10, 0), *lists), what)
-        # 16 and 24 at all lengths, equal or not.
-        for n in (0, count + 1, 5, 256 + 1, 2 ** 32 + 1, HIGHEST):
-            lists = lent_lists(rng, rng.randint(0, 3), rng.randint(0, 3))
-            for party in (1, 2):
-                check_read(state, party, n, *lists,
-                           (("refused", 16, 0), *lists), what)
-        for n in range(count + 2):
-            lists = lent_lists(rng, rng.randint(0, 9), rng.randint(0, 9))
-            for party in (rng.choice(NO_PARTIES), rng.randrange(3, 2 ** 64)):
-                check_read(state, party, n, *lists,
-                           (("refused", 24, 0), *lists), what)
-        # Bounds have no part in a read, and proposals are not looked into.
-        other = (*running[:5], (0,) * count)
-        faulty = (0, (), 7, ((99, ()),), 5_000, (1,))
-        for n in range(1, count + 1):
-            lists = lent_lists(rng, 9, 9)
-            for party in (1, 2):
-                for changed in ((other, *state[1:]), (running, faulty, other),
-                                (running, None, faulty),
-                                (running, running, running)):
-                    check_read(changed, party, n, *lists,
-                               expected_read(changed, party, n, *lists),
-                               what)
-    for kind in ("ok", ("refused", 11), "another cut"):
-        same(met.get(kind, 0) > 50, True, "often met: %s" % (kind,))
-
-
-def group_reads_large(rng):
-    """Tables of any values, with forward steps alone."""
-    met = {}
-    # The longest: 12 places that read a tick too early, as for asks.
-    million = 1_000_000
-    far = [(1 + i, million, 4 * million, 999 * i) for i in range(12)]
-    running = written_out(with_bounds(
-        far, [list(range(1, 13)), [1] * 12, [12]], 1_000, [HIGHEST] * 3))
-    for n, expected in ((1, 60_010_989), (2, 60_000_000), (3, 5 * million)):
-        check_read((running, None, running), 1, n, [1, 2], [3, 4],
-                   (("ok", running, None, 1, 0 if n < 3 else 10_989, million,
-                     1), [0 if n < 3 else 10_989, 2], [expected, 4]),
-                   "longest")
-    # H 60,000,000: 75 periods against 64, with 64 partitions walked.
-    tasks = [(5, 800_000, 2, 0), (6, 937_500, 1, 0)]
-    running = written_out(with_bounds(tasks, [[5, 6], [6, 5]], 0,
-                                      [HIGHEST] * 2))
-    for n in (1, 2):
-        found = ref.read((running, None, None), 1, n, [0] * 80, [0] * 80)[0]
-        same((found[0], found[5], found[6]), ("ok", 60_000_000, 64),
-             "H 60,000,000")
-    turns = 0
-    while turns < 160:
-        chains = [large_chain(rng) for _ in range(rng.randint(1, 3))]
-        if any(math.lcm(*[T for T, _D, _F in chain]) // chain[0][0] > 400
-               for chain in chains):
-            continue
-        turns += 1
-        gap = wide_gap(rng)
-        if turns % 2:
-            chains = [tightened(rng, chain, gap) for chain in chains]
-        tasks, numbers = schedule_of_chains(rng, chains)
-        if len(tasks) > 32:
-            continue
-        running = written_out(with_bounds(tasks, numbers, gap,
-                                          [HIGHEST] * len(chains)))
-        state = (running, None, running)
-        for n, chain in enumerate(chains, start=1):
-            table = table_by_bookings(chain, gap)
-            g = len(table[0])
-            for length in {0, 1, g - 1, g, g + 1, rng.randint(0, g)}:
-                lists = lent_lists(rng, length, length)
-                party = rng.choice([1, 2])
-                check_read(state, party, n, *lists,
-                           expected_read(state, party, n, *lists,
-                                         lambda _tasks, _gap: table),
-                           "%r" % (running,))
-            for kind, holds in (
-                    ("many anchors", g > 10),
-                    ("warm-up after job 0", table[1] > chain[0][2]),
-                    ("the cut is not the first place",
-                     table[3] * chain[0][0] != table[2]),
-                    ("the cut is not the last place",
-                     table[3] * chain[-1][0] != table[2]),
-                    ("more walked than anchors", table[3] > g)):
-                met[kind] = met.get(kind, 0) + holds
-    for kind, number in met.items():
-        same(number > 10, True, "met: %s, %d" % (kind, number))
-
-
-def group_read_refusals(rng):
-    """Every selection of the faults in one read of a state of no list."""
-    tasks = [(1, 4, 4, 0), (2, 6, 6, 0), (4, 999_983, 1, 0),
-             (5, 999_979, 1, 0)]
-    other = states_by_hand()[1][1]
-    met = {}
-    for faults in itertools.product((False, True), repeat=9):
-        nobody, eight, five, far, six, sixteen, seven, ten, eleven = faults
-        for _ in range(6):
-            gap = rng.choice(list(TABLES_BY_HAND))
-            chains = [list(rng.choice(list(TABLES_BY_HAND[gap])))
-                      for _ in range(rng.randint(1, 4))]
-            n = rng.randint(1, len(chains))
-            found, x0, H, walked = TABLES_BY_HAND[gap][tuple(chains[n - 1])]
-            g = len(found)
-            # A chain of 7 that is not read does not matter.
-            if seven:
-                chains[n - 1] = rng.choice([[4, 5], [5, 1, 4], [2, 4, 5]])
-            elif len(chains) > 1 and rng.random() < 0.3:
-                chains[n % len(chains)] = [5, 4]
-            short = rng.randrange(g) if eleven else g + rng.randint(0, 2)
-            longer = short + (rng.randint(1, 2) if ten else 0)
-            lists = lent_lists(rng, *rng.sample([short, longer], 2))
-            if sixteen:
-                n = rng.choice([0, len(chains) + 1, 5, 257, 2 ** 32 + 1,
-                                HIGHEST])
-            place = 0
-            if six:
-                which = rng.randrange(len(chains))
-                index = rng.randrange(len(chains[which]))
-                chains[which][index] = 8
-                place = next(position for numbers in chains
-                             for position, one in enumerate(numbers, start=1)
-                             if one == 8)
-            if far:
-                gap = rng.choice([1_001, 65_536, HIGHEST])
-                place = 0
-            given = list(tasks)
-            if five:
-                index = rng.randrange(4)
-                one, T, D, F = given[index]
-                given[index] = rng.choice([
-                    (one, 0, D, F), (one, 1_000_001, D, F), (one, T, 0, F),
-                    (one, T, 4_000_001, F), (one, T, D, 1_000_001),
-                    (one, T, D, HIGHEST), (index - (index > 2), T, D, F),
-                    (65_536, T, D, F)])
-                place = index + 1
-            held = list(with_bounds(given, chains, gap,
-                                    [any_number(rng) for _ in chains]))
-            if eight:
-                kind = rng.randrange(3)
-                if kind == 0:
-                    held[0] = rng.choice([0, 33, 40, HIGHEST])
-                elif kind == 1:
-                    held[2] = rng.choice([0, 5, 9, HIGHEST])
-                else:
-                    which = rng.randrange(len(chains))
-                    held[3][which] = (rng.choice([0, 13, HIGHEST]),
-                                      held[3][which][1])
-                place = 0
-            running = written_out(held)
-            state = (running, rng.choice([None, other, running]),
-                     rng.choice([None, other, running]))
-            number = next((one for one, holds
-                           in zip((24, 8, 5, 5, 6, 16, 7, 10, 11), faults)
-                           if holds), None)
-            for party in (1, 2):
-                if nobody:
-                    party = rng.choice(NO_PARTIES)
-                if number in (None, 11):
-                    expected = expected_read(state, party, n, *lists)
-                    figures = (g, x0, H, walked)
-                    same(expected[0],
-                         ("ok", running, state[party], *figures)
-                         if number is None
-                         else ("refused", 11, 0, *figures), "by hand")
-                    kept = min(len(lists[0]), g)
-                    same(list(zip(*expected[1:]))[:kept], found[:kept],
-                         "by hand")
-                else:
-                    expected = (("refused", number,
-                                 place if number in (5, 6) else 0), *lists)
-                    same(expected_read(state, party, n, *lists), expected,
-                         "expected")
-                check_read(state, party, n, *lists, expected,
-                           "%r" % (running,))
-            met[number] = met.get(number, 0) + 1
-    same(set(met), {None, 24, 8, 5, 6, 16, 7, 10, 11}, "each was met")
-    # The faults of a schedule at large, at any chain number.
-    faulty = 0
-    for _ in range(1_500):
-        arguments = faulty_schedule(rng, any_gap)
-        fault = listed_fault(*arguments)
-        if fault is None:
-            continue
-        faulty += 1
-        running = written_out((*arguments, [any_number(rng)
-                                            for _ in range(4)]))
-        n = rng.choice([0, 1, 2, 3, 4, 5, HIGHEST])
-        lists = lent_lists(rng, rng.randint(0, 2), rng.randint(0, 2))
-        for party, refusal in ((1, fault), (2, fault),
-                               (next(NO_PARTY), ("refused", 24, 0))):
-            check_read((running, None, None), party, n, *lists,
-                       (refusal, *lists), "a fault at large")
-    same(faulty > 500, True, "many faults")
-    # 7 of a chain that is read, and of no other.  16 and 7 before 10.
-    tasks = [(1, 999_983, 1, 0), (2, 999_979, 1, 0), (9, 10, 3, 5)]
-    for turn in itertools.permutations([[1, 2], [9], [9, 9]]):
-        running = written_out(with_bounds(tasks, list(turn), 0, [1, 2, 3]))
-        for n in range(6):
-            for lists in (([7], [8]), ([7], []), ([], [])):
-                if not 1 <= n <= 3:
-                    expected = (("refused", 16, 0), *lists)
-                elif turn[n - 1] == [1, 2]:
-                    expected = (("refused", 7, 0), *lists)
-                elif lists == ([7], []):
-                    expected = (("refused", 10, 0), *lists)
-                elif lists == ([], []):
-                    expected = (("refused", 11, 0, 1, 5, 10, 1), *lists)
-                else:
-                    # Twice the task: 5, read 15, 18, read 25, 28.
-                    latency = 13 if turn[n - 1] == [9] else 23
-                    expected = (("ok", running, None, 1, 5, 10, 1), [5],
-                                [latency])
-                for party in (1, 2):
-                    check_read((running, None, None), party, n, *lists,
-                               expected, "7 beside")
-    # 24 and 25 come before all else, whatever the state and what is given.
-    good = with_bounds(TASKS_A, [[1, 2], [2]], 0, [18, 12])
-    helds = [good, with_bounds(TASKS_A, [[1, 2], [2]], 0, [17, 12]),
-             with_bounds(TASKS_A, [[1, 3]], 0, [0]),
-             with_bounds([], [], 1_001, []),
-             with_bounds([(1, 0, 0, 0)], [[1]], 0, [0]),
-             with_bounds([(1, 151, 1, 0), (2, 397_351, 1, 0)], [[1, 2]], 0,
-                         [0])]
-    form = written_out(good)
-    for held in helds:
-        for state in states_by_hand() + [
-                (form, form, form), (form, written_out(held), None),
-                (form, None, written_out(held)),
-                (written_out(held), written_out(held), written_out(held))]:
-            same(ref.commit(state, 2, held), (("refused", 25, 0), state),
-                 "25 before all else")
-            for party in NO_PARTIES:
-                for call in (ref.ask, ref.commit):
-                    same(call(state, party, held),
-                         (("refused", 24, 0), state), "24 before all else")
-    # Each call by each party, from a state in which all else is right.
-    state = (form, form, form)
-    for party in range(300):
-        known = party in (1, 2)
-        same((ref.read(state, party, 2, [1], [2])[0][0],
-              ref.ask(state, party, good)[0][0],
-              ref.commit(state, party, good)[0][:2]),
-             ("ok" if known else "refused", "ok" if known else "refused",
-              ("ok",) if party == 1
-              else ("refused", 25 if party == 2 else 24)), "each party")
-
-
-# Kinds of calls, by a letter: p, q and x are asked for and committed.  The
-# firmware asks p, q, x, commits P, Q and reads r; the tablet asks s for p, t
-# for q, y for x, commits S for p and reads v; no party asks u and commits U
-# for p and reads w.
-LETTERS = {
-    "p": ("ask", 1, "p"), "q": ("ask", 1, "q"), "x": ("ask", 1, "x"),
-    "P": ("commit", 1, "p"), "Q": ("commit", 1, "q"),
-    "r": ("read", 1, 1, [5, 5], [6, 6]),
-    "s": ("ask", 2, "p"), "t": ("ask", 2, "q"), "y": ("ask", 2, "x"),
-    "S": ("commit", 2, "p"), "v": ("read", 2, 1, [5, 5, 5], [6, 6, 6]),
-    "u": ("ask", 3, "p"), "U": ("commit", 0, "p"),
-    "w": ("read", HIGHEST, 1, [5, 5], [6, 6]),
-}
-HELD_OF = {
-    "p": with_bounds(TASKS_A, [[1, 2], [2]], 0, [18, 12]),
-    "q": with_bounds(TASKS_A, [[1, 2]], 1, [20]),
-    "x": with_bounds(TASKS_A, [[1, 2]], 1, [19]),
-    # No call names it.
-    "o": with_bounds([(9, 10, 3, 5)], [[9]], 0, [13]),
-}
-ANSWER_OF = {"p": ("ok", [18, 12]), "q": ("ok", [20]),
-             "x": ("refused", 21, 0)}
-TABLE_OF = {"p": ((2, 0, 12, 2), [0, 8], [18, 16]),
-            "q": ((2, 0, 12, 2), [0, 4], [18, 20]),
-            "o": ((1, 5, 10, 1), [5], [13])}
-
-
-def call_of(letter):
-    """The call that a letter stands for."""
-    name, party, *rest = LETTERS[letter]
-    if name == "read":
-        return (name, party, *rest)
-    return (name, party, HELD_OF[rest[0]])
-
-
-def story(start, text):
-    """What runs, what each proposes and where commits ended, from letters.
-
-    `start` has the letters of the first three at the start.  A commit P is
-    not refused where p was asked for and since then neither p, q nor P
-    stands; a Q in between is refused.  A proposal that stands at the start
-    is as one asked for just before the list.
-    """
-    runs, firmware, tablet = start
-    before = (firmware or "") + {"p": "s", "q": "t", None: ""}[tablet]
-    whole = before + text
-    ends = [(0, runs)]
-    for letter in "pq":
-        since = "%s[^pq%s]*" % (letter, letter.upper())
-        ends += [(found.end(), letter)
-                 for found in re.finditer(since + letter.upper(), whole)]
-    tail = whole[max(ends)[0]:]
-    asked = [one for one in tail if one in "pq"]
-    looked = [{"s": "p", "t": "q"}[one] for one in tail if one in "st"]
-    return (max(ends)[1], asked[-1] if asked else None,
-            looked[-1] if looked else None,
-            {end - len(before) for end, _letter in ends[1:]})
-
-
-def told(start, text):
-    """The answer to the last letter of a list, from the letters alone."""
-    name, party, *rest = LETTERS[text[-1]]
-    runs, firmware, tablet, _ends = story(start, text[:-1])
-    if name == "read":
-        starts, latencies = list(rest[1]), list(rest[2])
-        if party not in (1, 2):
-            return (("refused", 24, 0), starts, latencies)
-        own = firmware if party == 1 else tablet
-        figures, *table = TABLE_OF[runs]
-        starts[:len(table[0])] = table[0]
-        latencies[:len(table[1])] = table[1]
-        return (("ok", written_out(HELD_OF[runs]),
-                 written_out(HELD_OF[own]) if own else None, *figures),
-                starts, latencies)
-    if party not in (1, 2):
-        return ("refused", 24, 0)
-    if name == "ask":
-        return ANSWER_OF[rest[0]]
-    if party == 2:
-        return ("refused", 25, 0)
-    if firmware is None:
-        return ("refused", 22, 0)
-    return ("ok",) if firmware == rest[0] else ("refused", 23, 0)
-
-
-def group_short_lists_of_two(_rng):
-    """Every short list of calls of both parties, and the two laws.
-
-    Each list goes on from the one without its last call.
-    """
-    forms = {letter: written_out(held) for letter, held in HELD_OF.items()}
-    forms[None] = None
-    calls = {letter: call_of(letter) for letter in LETTERS}
-    many = 0
-    for start, letters, longest in (
-            (("o", None, None), "pqxPQrstySvU", 4),
-            (("o", None, None), "pqxPQrstySvuUw", 3),
-            (("p", "q", "p"), "pqPQrstSvU", 3),
-            (("q", None, "q"), "pqPQrstSv", 3),
-            (("p", "p", None), "pPrsSv", 4)):
-        first = tuple(forms[one] for one in start)
-        if start[1:] == (None, None):
-            same(ref.make_state(HELD_OF[start[0]]), ("ok", first), "made")
-        # By its letters: the state after a list, what the firmware and what
-        # the tablet was answered.
-        known = {"": (first, (), ())}
-        before = [""]
-        alike_lists = {"": ((), [""])}
-        for length in range(1, longest + 1):
-            after = []
-            for text, letter in itertools.product(before, letters):
-                state, to_firmware, to_tablet = known[text]
-                longer = text + letter
-                call = calls[letter]
-                answer, state = ref.made_call(state, call)
-                runs, firmware, tablet, ends = story(start, longer)
-                same((answer, state),
-                     (told(start, longer),
-                      (forms[runs], forms[firmware], forms[tablet])),
-                     "%r, %s" % (start, longer))
-                if call[1] == 1:
-                    to_firmware += (answer,)
-                if call[1] == 2:
-                    to_tablet += (answer,)
-                known[longer] = (state, to_firmware, to_tablet)
-                after.append(longer)
-                # The first law.
-                without = "".join(one for one in longer if one not in "stySv")
-                same((to_firmware, state[:2]),
-                     (known[without][1], known[without][0][:2]),
-                     "without the tablet: %r, %s" % (start, longer))
-                # The second law: a list and the first with its events.
-                events = "".join(one for at, one in enumerate(longer)
-                                 if one in "stySv" or at + 1 in ends)
-                if events not in alike_lists:
-                    alike_lists[events] = (to_tablet, [])
-                same(to_tablet, alike_lists[events][0],
-                     "alike: %r, %s" % (start, longer))
-                alike_lists[events][1].append(longer)
-                # By the functions that other programs can call.
-                if length <= 2 or (length == 3 and len(letters) < 10):
-                    given = [calls[one] for one in longer]
-                    same(ref.without_tablet(given),
-                         [calls[one] for one in without], "without")
-                    same(ref.tablet_events(first, given),
-                         [ref.named_call(calls[one]) for one in events],
-                         "events of %s" % longer)
-                    same(ref.run_calls(first, given),
-                         ([(calls[one], told(start, longer[:at + 1]))
-                           for at, one in enumerate(longer)], state),
-                         "run of %s" % longer)
-            before = after
-        many += sum(len(lists) > 5 for _answers, lists
-                    in alike_lists.values())
-    same(many > 100, True, "many lists are alike")
-
-
-def random_call(rng, pool, party=None):
-    """A call of any kind by a party, or by any."""
-    if party is None:
-        party = rng.choice([1, 1, 1, 2, 2, 2, 0, 3, HIGHEST])
-    name = rng.choice(["ask", "ask", "commit", "commit", "read"])
-    if name == "read":
-        return (name, party, rng.choice([0, 1, 1, 1, 2, 3]),
-                *lent_lists(rng, *rng.choice([(9, 9), (9, 9), (1, 1),
-                                              (2, 1)])))
-    held = rng.choice(pool)
-    if rng.random() < 0.3:
-        held = with_other_junk(rng, held)
-    return (name, party, held)
-
-
-def answers_to(party, answered):
-    """What a party is answered, with the lists of its reads."""
-    return [answer for call, answer in answered if call[1] == party]
-
-
-def group_two_laws(rng):
-    """Both laws over random longer lists, from any state."""
-    met = {}
-    for turn in range(240):
-        pool = pool_of_helds(rng)
-        good = [held for held in pool if judged(held)[0] == "ok"]
-        # A state of a list, or one with any running one and any proposals.
-        if turn % 3:
-            state = ref.make_state(rng.choice(good))[1]
-        elif turn % 30 == 0:
-            state = ref.STATE_OF_ZEROS
-        else:
-            state = (written_out(rng.choice(pool)),
-                     *[rng.choice([None, written_out(rng.choice(pool))])
-                       for _ in range(2)])
-        calls = []
-        for _ in range(rng.choice([4, 12, 30])):
-            call = random_call(rng, pool)
-            calls.append(call)
-            # A commit is often of what was asked for.
-            if call[:2] == ("ask", 1) and rng.random() < 0.5:
-                calls.append(("commit", 1, with_other_junk(rng, call[2])))
-        answered, after = ref.run_calls(state, calls)
-        same([call for call, _answer in answered], calls, "the calls")
-        # The first law, also with only some of the tablet's calls out.
-        without = ref.without_tablet(calls)
-        same(without, [call for call in calls
-                       if call[1] in (0, 1, 3, HIGHEST)],
-             "without the tablet")
-        some = [call for call in calls
-                if call[1] != 2 or rng.random() < 0.5]
-        for fewer in (without, some):
-            again, last = ref.run_calls(state, fewer)
-            same(answers_to(1, again), answers_to(1, answered), "first law")
-            same(last[:2], after[:2], "first law, state")
-        # As many tablet's calls more change nothing either.
-        more = []
-        for call in calls:
-            more += [random_call(rng, pool, 2)
-                     for _ in range(rng.choice([0, 0, 1, 2]))] + [call]
-        again, last = ref.run_calls(state, more)
-        same(answers_to(1, again), answers_to(1, answered), "first law")
-        same(last[:2], after[:2], "first law, state")
-        # The second law: its calls and the commits, from the answers.
-        events = [call for call, answer in answered
-                  if call[1] == 2 or (call[0] == "commit"
-                                      and answer == ("ok",))]
-        same(ref.tablet_events(state, calls),
-             [(*call[:2], written_out(call[2])) if call[0] != "read"
-              else (*call[:3], *map(tuple, call[3:])) for call in events],
-             "events")
-        # Another list with these: the firmware asks, reads and has commits
-        # refused in between, and asks again for what it commits.
-        other, stands, begun = [], state[1], False
-        for call in events + [None]:
-            for _ in range(rng.choice([0, 1, 2, 3])):
-                between = random_call(rng, pool, rng.choice([0, 1, 1, 1, 3]))
-                if between[:2] == ("commit", 1) and stands is not None \
-                        and alike(stands, between[2]):
-                    continue
-                # A proposal of no ask cannot be asked for once more.
-                if between[:2] == ("ask", 1):
-                    if not begun and stands is not None \
-                            and judged(stands)[0] != "ok":
-                        continue
-                    if judged(between[2])[0] == "ok":
-                        stands = between[2]
-                other.append(between)
-            if call is None:
-                break
-            if call[:2] == ("commit", 1):
-                if stands is None or not alike(stands, call[2]):
-                    other.append(("ask", 1, with_other_junk(rng, call[2])))
-                stands, begun = None, True
-            if call[0] != "read" and rng.random() < 0.5:
-                call = (*call[:2], with_other_junk(rng, call[2]))
-            other.append(call)
-        same(ref.tablet_events(state, other), ref.tablet_events(state, calls),
-             "the same events")
-        again, last = ref.run_calls(state, other)
-        same(answers_to(2, again), answers_to(2, answered), "second law")
-        same((last[0], last[2]), (after[0], after[2]), "second law, state")
-        met["lists"] = met.get("lists", 0) + (other != calls)
-        for kind in events:
-            met[kind[:2]] = met.get(kind[:2], 0) + 1
-        # Without one of them the events are others.
-        for at in range(len(calls)):
-            if calls[at] in events and rng.random() < 0.3:
-                fewer = calls[:at] + calls[at + 1:]
-                if calls[at][1] == 2:
-                    same(len(ref.tablet_events(state, fewer)),
-                         len(events) - 1, "one event less")
-    for kind in ("lists", ("read", 2), ("ask", 2), ("commit", 2),
-                 ("commit", 1)):
-        same(met.get(kind, 0) > 50, True, "often met: %s" % (kind,))
-    # What the laws leave open does occur: the firmware's commit changes what
-    # the tablet reads, and its proposal.
-    state = (written_out(HELD_OF["o"]), None, None)
-    for first, second in (("pPv", "v"), ("spPv", "sv"), ("psPv", "pPsv"),
-                          ("pPv", "qQv"), ("sv", "tv")):
-        one, two = [[call_of(letter) for letter in text]
-                    for text in (first, second)]
-        same(ref.tablet_events(state, one) == ref.tablet_events(state, two),
-             False, "other events")
-        same(answers_to(2, ref.run_calls(state, one)[0])
-             == answers_to(2, ref.run_calls(state, two)[0]), False,
-             "other answers")
+    for kind in [("ask", "ok"), ("ask", 8), ("ask", 5), ("ask", 6),
+                 ("ask", 7), ("ask", 21), ("commit", "ok"), ("commit", 22),
+                 ("commit", 23)]:
+        same(met.get(kind, 0) > 20, True, "often met: %s %s" % kind)
 
 
 GROUPS = [
@@ -7425,13 +6356,7 @@ GROUPS = [
     ("asks, large values", group_asks_large),
     ("refusals of ask, make and commit", group_state_refusals),
     ("all short lists of asks and commits", group_all_short_lists),
-    ("lists of calls by a log", group_lists_of_calls),
-    ("reads by hand", group_reads_by_hand),
-    ("reads by literal walks", group_reads),
-    ("reads, large values", group_reads_large),
-    ("refusals of reads and of parties", group_read_refusals),
-    ("all short lists of two parties", group_short_lists_of_two),
-    ("the two laws over longer lists", group_two_laws),
+    ("lists of asks and commits by a log", group_lists_of_calls),
 ]
 
 

@@ -3,7 +3,6 @@
 Beside the answers stands what only a test looks at: whether lists and bytes that a call may only read are as they were, and whether a call wrote past what was lent to it.
 """
 import dataclasses
-import functools
 import os
 import subprocess
 import sys
@@ -12,7 +11,7 @@ from array import array
 TOP = os.path.dirname(os.path.dirname(os.path.abspath(__file__)))
 sys.path.insert(0, os.path.join(TOP, "host"))
 from meshorchard import Bounded, Broken, Chain, Refused, Schedule, State, Table, calls, library
-from meshorchard.lent import LARGEST, ROW, lend_to_write
+from meshorchard.lent import LARGEST, ROW
 
 # What lies in memory past lent bytes: a call must not write there.
 FENCE = bytes(range(0xA0, 0xB0))
@@ -177,7 +176,7 @@ def smallest_phase(schedule, chain, number, bound):
     return asked(calls.smallest_phase, schedule, chain, number, bound)
 
 
-# The calls on the instrument's state. A schedule with bounds is given as its 187 numbers, a state as its bytes, a party as a number.
+# The calls on the instrument's state. A schedule with bounds is given as its 187 numbers, a state as its bytes.
 
 # Which of the numbers is the count of chains.
 CHAINS = 181
@@ -185,15 +184,14 @@ CHAINS = 181
 
 def handed(call, *given):
     """What the shared object hands back: number and place of the refusal, the latencies of an ask, every byte of the state. What was given must stay, and the package must tell the same."""
-    structs = [each for each in given if not isinstance(each, int)]
-    before = list(map(bytes, structs))
+    before = list(map(bytes, given))
     answer = getattr(library.load(), f"mo_{call.__name__}")(*given)
     number, place, latencies = answer.refusal.number, answer.refusal.place, tuple(getattr(answer, "latencies", ()))
     told = answered(call, *given)
     success = (answer.state, latencies[:array("Q", bytes(given[-1]))[CHAINS]]) if call is calls.ask else (answer.state,)
     if told != (("refused", number, place) if number else ("ok", *success)):
         number = f"{number}, but {told} by the package"
-    if list(map(bytes, structs)) != before:
+    if list(map(bytes, given)) != before:
         number = f"{number}, but what was given is changed"
     return number, place, latencies, bytes(answer.state)
 
@@ -206,38 +204,12 @@ def make_state(numbers):
     return handed(calls.make_state, bounded(numbers))
 
 
-def ask(state, party, numbers):
-    return handed(calls.ask, State.from_buffer_copy(state), party, bounded(numbers))
+def ask(state, numbers):
+    return handed(calls.ask, State.from_buffer_copy(state), bounded(numbers))
 
 
-def commit(state, party, numbers):
-    return handed(calls.commit, State.from_buffer_copy(state), party, bounded(numbers))
-
-
-def shown_by(call, state, party, chain, starts, latencies):
-    """What a read by this call answers, with lists that held these numbers; what the lists hold after it; and what is wrong with what was lent: the state must stay, and all past the lists."""
-    given, memory = State.from_buffer_copy(state), [array("Q", [*held, *FENCE]) for held in (starts, latencies)]
-    found = call(given, party, chain, *(memoryview(each)[:len(held)] for each, held in zip(memory, (starts, latencies))))
-    wrong = ", but what was given is changed" if bytes(given) != state else ""
-    wrong += ", but past a list it wrote" if any(each[-len(FENCE):].tolist() != [*FENCE] for each in memory) else ""
-    return found, [each[:-len(FENCE)].tolist() for each in memory], wrong
-
-
-def read_running(state, party, chain, starts, latencies):
-    """A read, as the shared object answers it: number and place of the refusal; every byte of what runs and of the proposal, and whether one stands; g, x0, H and the number walked; and both lists
-    after it, which held these numbers. The package must tell the same, and leave the same in the lists."""
-    def by_library(given, party, chain, first, second):
-        return library.load().mo_read_running(given, party, chain, *lend_to_write(first), *lend_to_write(second))
-
-    answer, lists, wrong = shown_by(by_library, state, party, chain, starts, latencies)
-    number, place, figures = answer.refusal.number, answer.refusal.place, (answer.anchors, answer.tick, answer.hyperperiod, answer.walked)
-    told, left, too = shown_by(functools.partial(answered, calls.read_running), state, party, chain, starts, latencies)
-    success = ("ok", answer.running, answer.proposal if answer.stands else None, figures)
-    if told != (success if number == 0 else ("refused", number, place, *(figures if number == 11 else ()))) or left != lists:
-        number = f"{number}, but {told} by the package, with {left} in the lists"
-    if wrong or too:
-        number = f"{number}{wrong}{too}"
-    return number, place, bytes(answer.running), bytes(answer.proposal), answer.stands, figures, *lists
+def commit(state, numbers):
+    return handed(calls.commit, State.from_buffer_copy(state), bounded(numbers))
 
 
 def bounded_schedule(schedule, bounds):

@@ -742,7 +742,7 @@ def wrong_use_cases(folder):
     some += [(["histogram", LASER, *words], "--width") for words in ([], ["5ms"], ["--width"])] + [(["histogram", "--width", "5ms"], "FILE"), (["histogram", LASER, "--width", "5ms", "-o"], "-o")]
     # A width with more bars than are shown; the picture is not made either.
     some += [(["histogram", LASER, "--width", "1", *more], "105,000 bars") for more in ([], ["-o", out], ["-o", "-"])]
-    some += [(["explain"], "N")] + [(["explain", word], word) for word in ("0", "26", "18446744073709551616", "x", "-1", "1.5")] + [(["explain", "5", "x"], "x")]
+    some += [(["explain"], "N")] + [(["explain", word], word) for word in ("0", "24", "18446744073709551616", "x", "-1", "1.5")] + [(["explain", "5", "x"], "x")]
     some += [(["phase", LASER], "TASK"), (["phase", LASER, "10"], "BOUND"), (["phase", LASER, "10", "5", "7"], "7"), (["phase", LASER, "10", "129.5", "ms"], "129.5"), (["phase", LASER, "10", "5ms", "-o"], "-o")]
     for bad in ("-1", "x", "1.5", "18446744073709551616", "5ns", "1,0", "", "١", "1e3", "0.0000001s"):
         wrong = (["delay", LASER, bad], ["age", LASER, bad, "1"], ["pair", LASER, bad, "1", "1"], ["windows", LASER, bad, "5"], ["page", LASER, "-o", out, "--bound", bad])
@@ -759,7 +759,7 @@ def like_processes(folder, files):
     """./meshorchard gives what the calls in this process give."""
     out = os.path.join(folder, "out")
     some = [arguments_for(word, path, out) for path in files for word in ON_FILES if word not in ("curve", "page")]
-    some += [["explain", "5", "18"], ["explain", "25"], ["explain", "26"], ["delay", LASER, "95ms"], ["delay", LASER, "x"], []]
+    some += [["explain", "5", "18"], ["explain", "23"], ["explain", "24"], ["delay", LASER, "95ms"], ["delay", LASER, "x"], []]
     some += [["histogram", LASER, "--width", width, *more] for width, more in (("0", []), ("1", []), ("20 ms", ["--chain", "1"]), ("20ms", ["-o", "-"]), ("0", ["-o", "-"]))]
     some += [["phase", LASER, *words] for words in (["10", "130 ms"], ["10", "129.5ms", "-o", "-"], ["20", "1ms"], ["20", "1ms", "-o", "-"], ["20", "1ms", "-o", out], ["30", "130ms"], ["40", "130ms", "--chain", "1"])]
     for arguments, answer in zip(some, ran_all([(arguments,) for arguments in some])):
@@ -787,7 +787,7 @@ def commands(r, factor):
         yield from bar_cases()
         for jobs in (0, 101):
             yield f"page with windows of {jobs} jobs, which are refused with 15", called("page", LASER, "-o", os.path.join(folder, "out"), "--jobs", jobs).status, 1
-        for refusal in range(1, 26):
+        for refusal in range(1, 24):
             answer = called("explain", refusal)
             yield f"explain {refusal}", (answer.status, answer.text().startswith(f"{refusal}: "), answer.text().count("\n") >= 2, answer.err), (0, True, True, "")
         yield from like_processes(folder, [LASER, os.path.join(folder, "long.schedule"), os.path.join(folder, "refused-5.schedule"), os.path.join(folder, "missing")])
@@ -1039,8 +1039,7 @@ EXPLAINED = {
     10: ("starts and the latencies differ in length",), 11: ("too little room", "698", "1,024"), 12: ("too early", "warm-up tick"), 13: ("too late", "1,000,000,000,000"),
     14: ("not well-formed", "1,000,000,000", "60,011,000"), 15: ("window is outside", "1 to 100"), 16: ("no chain of that number", "from 1"),
     17: ("do not part the chain", "1 to the number of places less 1"), 18: ("width is 0", "1 tick or more"), 19: ("not in the chain", "fills a place"), 20: ("period is too long", "10,000 ticks", "10 ms"),
-    21: ("above its bound", "no chain"), 22: ("no proposal", "asked for by the firmware first"), 23: ("not the proposal", "the schedule and the bounds of the firmware's last ask"),
-    24: ("party is unknown", "party 1 is the firmware", "party 2 the tablet"), 25: ("may not make this call", "the firmware may read, ask and commit", "the tablet read and ask"),
+    21: ("above its bound", "no chain"), 22: ("no proposal", "asked for first"), 23: ("not the proposal", "the schedule and the bounds"),
 }
 # What it must say of a place, and what it must not.
 PLACES = {
@@ -1270,11 +1269,10 @@ def bounded(schedule, *bounds):
     return found
 
 
-# The same schedule with bounds, its greatest latencies, with a gap of 1 and those that it has then, and its first chain alone; and states of them, with proposals of the firmware, of the tablet and of both.
-BOUNDED_A, BOUNDED_GAP, BOUNDED_ONE = bounded(SCHEDULE_A, 18, 12), bounded(dataclasses.replace(SCHEDULE_A, gap=1), 20, 12), bounded(Schedule.of(SCHEDULE_A.task_list(), [[1, 2]]), 20)
-FIRMWARE, TABLET = structs.FIRMWARE, structs.TABLET
+# The same schedule with bounds, its greatest latencies, and with a gap of 1 and those that it has then; and states of them.
+BOUNDED_A, BOUNDED_GAP = bounded(SCHEDULE_A, 18, 12), bounded(dataclasses.replace(SCHEDULE_A, gap=1), 20, 12)
 RUNNING_A, RUNNING_GAP = State(BOUNDED_A), State(BOUNDED_GAP)
-PROPOSED, PROPOSED_BOTH = State(BOUNDED_A, structs.Side(BOUNDED_GAP, 1)), State(BOUNDED_A, structs.Side(BOUNDED_GAP, 1), structs.Side(BOUNDED_ONE, 1))
+PROPOSED = State(BOUNDED_A, structs.Side(BOUNDED_GAP, 1))
 # Each call of the header with chain A of the specification: its arguments, and what README, header or reference say that it answers.
 ANSWERS = {
     "read_table": ((TABLE_A, 7), 11), "greatest": ((TABLE_A,), 18), "low": ((TABLE_A,), 10), "mean": ((TABLE_A,), (336, 24)), "throughput": ((TABLE_A,), (2, 12)),
@@ -1284,8 +1282,7 @@ ANSWERS = {
     "windows": ((CHAIN_A, 13, 3), reference.windows([(4, 4, 0), (6, 6, 0)], 0, 13, 3)[1:]), "read_file": ((FILE_A,), ([1, 4, 4, 0, 2, 6, 6, 0, *[0] * 120], 2, [1, 2, *[0] * 10, 2, *[0] * 35], [2, 1, 0, 0], 2, 0, (None, None, None))),
     "sections": ((CHAIN_A, [1]), ((8, 12), 20)), "write_file": ((SCHEDULE_A, bytearray(698)), len(FILE_A)), "chain_of_schedule": ((SCHEDULE_A, 1), ([4, 4, 0, 6, 6, 0], 2, 0)),
     "bookings": ((SCHEDULE_A, 1, 2, 0), reference.bookings([(4, 4, 0), (6, 6, 0)], 0, [(6, 6, 0)], 0, 0)[1:]),
-    "bounded_schedule": ((SCHEDULE_A, [18, 12]), BOUNDED_A), "make_state": ((BOUNDED_A,), RUNNING_A), "ask": ((PROPOSED, TABLET, BOUNDED_ONE), (PROPOSED_BOTH, (18,))),
-    "commit": ((PROPOSED_BOTH, FIRMWARE, BOUNDED_GAP), RUNNING_GAP), "read_running": ((PROPOSED_BOTH, TABLET, 1, array("Q", [9] * 3), array("Q", [9] * 3)), (BOUNDED_A, BOUNDED_ONE, (2, 0, 12, 2))),
+    "bounded_schedule": ((SCHEDULE_A, [18, 12]), BOUNDED_A), "make_state": ((BOUNDED_A,), RUNNING_A), "ask": ((RUNNING_A, BOUNDED_GAP), (PROPOSED, (20, 12))), "commit": ((PROPOSED, BOUNDED_GAP), RUNNING_GAP),
     "smallest_phase": ((THREES, 1, 3, 33), 5), "report": ((FILE_A, bytearray(92000)), len(reference.report(FILE_A))),
     "load": ((0, 3), ([10000, 10000, 8591, 10000, 10000, 7183, 40000, 40000, 26767], 3, 0)),
 }
@@ -1298,8 +1295,7 @@ REFUSALS = {
     13: (calls.delay, (CHAIN_A, 10**12 + 1), 0), 14: (calls.greatest, (dataclasses.replace(TABLE_A, hyperperiod=0),), 0), 15: (calls.windows, (CHAIN_A, 5, 101), 0),
     16: (calls.chain_of_schedule, (SCHEDULE_A, 3), 0), 17: (calls.sections, (CHAIN_A, [1, 1]), 0), 18: (calls.histogram, (TABLE_A, 0, array("Q", [7])), 0),
     19: (calls.smallest_phase, (SCHEDULE_A, 2, 1, 18), 0), 20: (calls.smallest_phase, (Schedule.of([(1, 10001, 4, 0)], [[1]]), 1, 1, 10**6), 0),
-    21: (calls.ask, (RUNNING_A, FIRMWARE, bounded(SCHEDULE_A, 18, 11)), 0), 22: (calls.commit, (RUNNING_A, FIRMWARE, BOUNDED_A), 0), 23: (calls.commit, (PROPOSED_BOTH, FIRMWARE, BOUNDED_ONE), 0),
-    24: (calls.read_running, (PROPOSED, 0, 1, array("Q", [9]), array("Q", [9])), 0), 25: (calls.commit, (PROPOSED, TABLET, BOUNDED_GAP), 0),
+    21: (calls.ask, (RUNNING_A, bounded(SCHEDULE_A, 18, 11)), 0), 22: (calls.commit, (RUNNING_A, BOUNDED_A), 0), 23: (calls.commit, (PROPOSED, BOUNDED_A), 0),
     5: (calls.check, (Chain.of([(4, 4, 0), (0, 6, 0)]),), 2), 6: (calls.write_file, (Schedule.of([(1, 4, 4, 0)], [[1, 1, 9]]), bytearray(698)), 3),
     1: (calls.read_file, (FILE_A[:-1],), len(FILE_A) - 4), 2: (calls.read_file, (b"\3\0\1\0",), 0), 3: (calls.read_file, (b"\4\0\5\0",), 0),
     4: (calls.read_file, (FILE_A + b"x",), len(FILE_A)),
@@ -1315,7 +1311,7 @@ def declared_cases():
     """Every call of the header is a typed function with the answer that it should have."""
     with open(os.path.join(TOP, "include", "meshorchard.h"), encoding="utf-8") as header:
         names = re.findall(r"^\w+ mo_(\w+)\(", re.sub(r"/\*.*?\*/", "", header.read(), flags=re.DOTALL), re.MULTILINE)
-    assert len(names) == len(set(names)) == len(ANSWERS) == 26, names
+    assert len(names) == len(set(names)) == len(ANSWERS) == 25, names
     for name in names:
         function = getattr(calls, name, None)
         typed = callable(function) and all(each.annotation is not each.empty for each in inspect.signature(function).parameters.values())
@@ -1333,14 +1329,7 @@ def declared_cases():
         yield f"calls.histogram of width {width} and {length} counts", ("ok", list(counts), rest), reference.histogram(*shape(TABLE_A), width, length)
     for bound, right in ((0, None), (32, None), (33, 5), (42, 5), (43, 0), (2**64 - 1, 0)):
         yield f"calls.smallest_phase for a bound of {bound}", calls.smallest_phase(THREES, 1, 3, bound), right
-    yield "what calls.read_running leaves", (*map(list, ANSWERS["read_running"][0][3:]),), ([0, 8, 9], [18, 16, 9])
-    for party, shown in ((FIRMWARE, BOUNDED_GAP), (TABLET, BOUNDED_ONE), (0, None), (3, None)):
-        yield f"the proposal of party {party}", (RUNNING_A.proposal(party), PROPOSED_BOTH.proposal(party)), (None, shown)
-    yield "the proposals where only one stands", (PROPOSED.proposal(FIRMWARE), PROPOSED.proposal(TABLET)), (BOUNDED_GAP, None)
-    for state, party, shown in ((PROPOSED_BOTH, FIRMWARE, BOUNDED_GAP), (PROPOSED, FIRMWARE, BOUNDED_GAP), (PROPOSED, TABLET, None), (RUNNING_A, FIRMWARE, None), (RUNNING_A, TABLET, None)):
-        lists = array("Q", [9, 9]), array("Q", [9, 9])
-        found = proved.answered(calls.read_running, state, party, 2, *lists)
-        yield f"what a read shows party {party}", (found, *map(list, lists)), (("ok", BOUNDED_A, shown, (1, 0, 6, 1)), [0, 9], [12, 9])
+    yield "the proposal of a state", (RUNNING_A.proposal, PROPOSED.proposal), (None, BOUNDED_GAP)
     for seed, places in ((0, 1), (1, 2), (2**64 - 1, 12), (2**63, 11), (0xDEADBEEF, 4)):
         chain, right = calls.load(seed, places), Chain.of(reference.load(seed, places)[1])
         yield f"calls.load of seed {seed} and {places} places, as a chain", (chain, proved.answered(calls.check, chain)), (right, ("ok", max(right.tasks[::3])))
@@ -1355,19 +1344,7 @@ def refusal_cases():
             words = refused.words
             found = refused.number, refused.place, isinstance(words, str) and len(words) > 20, words in str(refused), str(refusal) in str(refused)
         yield f"refusal {refusal} of calls.{call.__name__}", found, (refusal, place, True, True, True)
-    yield "a refusal for each number of the header", sorted(REFUSALS), list(range(1, 26))
-    # 11 alone has figures, and the first anchors in the lists; of every other refusal the lists stay.
-    for party, chain, lengths, refusal, left in (
-            (FIRMWARE, 1, (1, 1), (11, 0, 2, 0, 12, 2), ([0], [18])), (TABLET, 1, (0, 0), (11, 0, 2, 0, 12, 2), ([], [])), (TABLET, 2, (0, 0), (11, 0, 1, 0, 6, 1), ([], [])),
-            (TABLET, 1, (2, 1), (10, 0), ([9, 9], [9])), (FIRMWARE, 3, (2, 2), (16, 0), ([9, 9], [9, 9])), (FIRMWARE, 0, (2, 1), (16, 0), ([9, 9], [9])), (3, 3, (2, 1), (24, 0), ([9, 9], [9])),
-            (2**64 - 1, 1, (2, 2), (24, 0), ([9, 9], [9, 9]))):
-        lists = [array("Q", [9] * length) for length in lengths]
-        yield f"a read that is refused with {refusal[0]}, and its lists", (proved.answered(calls.read_running, PROPOSED_BOTH, party, chain, *lists), *map(list, lists)), (("refused", *refusal), *left)
-    yield "a read of a state of zeros", proved.answered(calls.read_running, State(), TABLET, 1, array("Q", [9]), array("Q", [9])), ("refused", 8, 0)
-    for party, refusal in ((0, 24), (TABLET, 25), (3, 24), (2**32 + 1, 24), (2**63 + 2, 24)):
-        yield f"a commit of party {party}", proved.answered(calls.commit, PROPOSED_BOTH, party, BOUNDED_GAP), ("refused", refusal, 0)
-        if party != TABLET:
-            yield f"an ask of party {party}", proved.answered(calls.ask, PROPOSED_BOTH, party, bounded(Schedule.of([], []))), ("refused", 24, 0)
+    yield "a refusal for each number of the header", sorted(REFUSALS), list(range(1, 24))
     for table, width, refusal in ((TABLE_A, 0, 18), (dataclasses.replace(TABLE_A, anchors=3), 0, 14), (dataclasses.replace(TABLE_A, anchors=3), 5, 14)):
         counts = array("Q", [7, 8, 9])
         yield f"a histogram that is refused with {refusal}, and its list", (proved.answered(calls.histogram, table, width, counts), list(counts)), (("refused", refusal, 0), [7, 8, 9])
@@ -1384,8 +1361,7 @@ def beyond():
             (calls.read_table, TABLE_A, value), (calls.exceedance, TABLE_A, value), (calls.histogram, TABLE_A, value, array("Q", bytes(8))),
             (calls.make_table, CHAIN_A, value, array("Q", bytes(8)), array("Q", bytes(8))), (calls.chain_of_schedule, SCHEDULE_A, value),
             (calls.bounded_schedule, SCHEDULE_A, [18, value]), (calls.bounded_schedule, dataclasses.replace(SCHEDULE_A, gap=value), []),
-            (calls.ask, RUNNING_A, value, BOUNDED_A), (calls.commit, PROPOSED, value, BOUNDED_GAP), (calls.read_running, RUNNING_A, value, 1, array("Q", bytes(16)), array("Q", bytes(16))),
-            (calls.read_running, RUNNING_A, 1, value, array("Q", bytes(16)), array("Q", bytes(16))), (calls.bookings, SCHEDULE_A, value, 1, 5), (calls.bookings, SCHEDULE_A, 1, value, 5),
+            (calls.bookings, SCHEDULE_A, value, 1, 5), (calls.bookings, SCHEDULE_A, 1, value, 5),
             (calls.bookings, SCHEDULE_A, 1, 1, value), (calls.smallest_phase, SCHEDULE_A, value, 2, 18), (calls.smallest_phase, SCHEDULE_A, 1, value, 18),
             (calls.smallest_phase, SCHEDULE_A, 1, 2, value), (calls.check, dataclasses.replace(CHAIN_A, gap=value)), (calls.check, dataclasses.replace(CHAIN_A, places=value)),
             (calls.check, Chain.of([(4, 4, value)])), (calls.greatest, dataclasses.replace(TABLE_A, anchors=value)),
@@ -1424,12 +1400,6 @@ def leaves(code, *lists):
     return call
 
 
-def shows(number, place=0, **other):
-    """A read with this refusal and these fields; all else is zeros."""
-    return lambda *_: structs.Shown(structs.Refusal(number, place), **other)
-
-
-READ = PROPOSED_BOTH, TABLET, 1, array("Q", bytes(16)), array("Q", bytes(16))
 # Calls that break a promise of the header: a number that is not written, one that is not 0 in a refusal, or past a count; a report of no bytes.
 BREACHES = [
     ("mo_delay", calls.delay, (CHAIN_A, 0), leaves(0, None)), ("mo_delay", calls.delay, (CHAIN_A, 0), leaves(12, [5])), ("mo_check", calls.check, (CHAIN_A,), leaves(7, None)),
@@ -1454,21 +1424,10 @@ BREACHES = [
     # A success with a place; a refusal with another state, or with latencies; latencies past the chains.
     ("mo_make_state", calls.make_state, (BOUNDED_A,), lambda b: structs.MadeState(RUNNING_A, structs.Refusal(0, 1))),
     ("mo_make_state", calls.make_state, (BOUNDED_A,), lambda b: structs.MadeState(RUNNING_A, structs.Refusal(21, 0))),
-    ("mo_ask", calls.ask, (PROPOSED, FIRMWARE, BOUNDED_A), lambda s, p, b: structs.Asked(RUNNING_A, structs.Refusal(21, 0))),
-    ("mo_ask", calls.ask, (PROPOSED_BOTH, FIRMWARE, BOUNDED_A), lambda s, p, b: structs.Asked(PROPOSED, structs.Refusal(24, 0))),
-    ("mo_ask", calls.ask, (RUNNING_A, TABLET, BOUNDED_A), lambda s, p, b: structs.Asked(s, structs.Refusal(21, 0), (0, 0, 0, 1))),
-    ("mo_ask", calls.ask, (RUNNING_A, FIRMWARE, BOUNDED_A), lambda s, p, b: structs.Asked(s, structs.Refusal(0, 0), (18, 12, 1, 0))),
-    ("mo_ask", calls.ask, (RUNNING_A, FIRMWARE, BOUNDED_A), lambda s, p, b: structs.Asked(s, structs.Refusal(0, 7), (18, 12, 0, 0))),
-    ("mo_commit", calls.commit, (PROPOSED, FIRMWARE, BOUNDED_A), lambda s, p, b: structs.Committed(RUNNING_A, structs.Refusal(23, 0))),
-    ("mo_commit", calls.commit, (PROPOSED_BOTH, TABLET, BOUNDED_ONE), lambda s, p, b: structs.Committed(PROPOSED, structs.Refusal(25, 0))),
-    ("mo_commit", calls.commit, (PROPOSED, FIRMWARE, BOUNDED_GAP), lambda s, p, b: structs.Committed(RUNNING_GAP, structs.Refusal(0, 1))),
-    # A read: a success with a place, or with a proposal that does not stand; a refusal with what runs, a proposal, whether one stands, or a figure; and 11 with more than its figures.
-    *[("mo_read_running", calls.read_running, READ, answer) for answer in (
-        shows(0, 1, running=BOUNDED_A, anchors=2, hyperperiod=12, walked=2), shows(0, 0, running=BOUNDED_A, proposal=BOUNDED_ONE, anchors=2, hyperperiod=12, walked=2),
-        *(shows(number, **{field: value}) for number in (24, 16, 10, 8, 11) for field, value in (("running", BOUNDED_A), ("proposal", BOUNDED_ONE), ("stands", 1))),
-        *(shows(number, **{field: 1}) for number in (24, 16, 10, 7) for field in ("anchors", "tick", "hyperperiod", "walked")),
-        shows(11, running=BOUNDED_A, anchors=2, hyperperiod=12, walked=2), shows(11, proposal=BOUNDED_ONE, stands=1, anchors=2, hyperperiod=12, walked=2),
-    )],
+    ("mo_ask", calls.ask, (PROPOSED, BOUNDED_A), lambda s, b: structs.Asked(RUNNING_A, structs.Refusal(21, 0))),
+    ("mo_ask", calls.ask, (RUNNING_A, BOUNDED_A), lambda s, b: structs.Asked(s, structs.Refusal(21, 0), (0, 0, 0, 1))),
+    ("mo_ask", calls.ask, (RUNNING_A, BOUNDED_A), lambda s, b: structs.Asked(s, structs.Refusal(0, 0), (18, 12, 1, 0))),
+    ("mo_commit", calls.commit, (PROPOSED, BOUNDED_A), lambda s, b: structs.Committed(RUNNING_A, structs.Refusal(23, 0))),
     ("mo_bookings", calls.bookings, (SCHEDULE_A, 1, 2, 0), leaves(16, [0, 0, 0, 1])), ("mo_report", calls.report, (FILE_A, bytearray(9)), leaves(0, None)),
 ]
 
@@ -1534,8 +1493,6 @@ def buffer_cases():
         yield f"report to {type(out)}", raised(TypeError, calls.report, FILE_A, out), True
     for out in ([0] * 5, (0,) * 5, array("q", [0] * 5), array("L", [0] * 5), memoryview(bytes(40))):
         yield f"make_table to {type(out)}", raised(TypeError, calls.make_table, CHAIN_A, 1, out, out), True
-        for lists in ((out, array("Q", bytes(40))), (array("Q", bytes(40)), out)):
-            yield f"read_running to {type(out)}", raised(TypeError, calls.read_running, RUNNING_A, FIRMWARE, 1, *lists), True
         yield f"histogram to {type(out)}", raised(TypeError, calls.histogram, TABLE_A, 5, out), True
     for data in (FILE_A, bytearray(FILE_A), memoryview(FILE_A), memoryview(bytearray(FILE_A)), array("B", FILE_A), memoryview(array("B", FILE_A))):
         yield f"read_file of {type(data)}", shape(calls.read_file(data)), shape(calls.read_file(FILE_A))

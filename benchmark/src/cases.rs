@@ -2,7 +2,7 @@
 use crate::programs::{Bounded, Chain, Program, Schedule, State, Table, REFUSED};
 use plain::bookings::check_pair;
 use plain::chain::{check, forward};
-use plain::instrument::{self, FIRMWARE, TABLET};
+use plain::instrument;
 use plain::latency::{greatest, longest_place};
 use plain::load::make_load;
 use plain::maker::{make_table, Made};
@@ -22,8 +22,6 @@ const MOST_STEPS: u64 = 10_000_000;
 const LATEST: u64 = 100_000_000_000;
 /// What the lists hold before making, so that an entry written past the anchors is seen, and a schedule with bounds past its counts.
 const RUBBISH: u64 = 0xDEAD_BEEF;
-/// No party has this number.
-const NOBODY: u64 = 3;
 
 pub enum Call {
     Make { chain: Chain, p: usize, slots: usize },
@@ -36,10 +34,9 @@ pub enum Call {
     Bookings { schedule: Schedule, ticks: Vec<u64> },
     Phase { schedule: Schedule, number: u64, bound: u64 },
     Load { seed: u64, places: usize },
-    /// `code` is what is to be answered, here, to a commit and to a read.
-    Ask { state: State, party: u64, b: Bounded, code: u64 },
-    Commit { state: State, party: u64, b: Bounded, code: u64 },
-    Look { state: State, party: u64, chain: usize, slots: usize, code: u64 },
+    /// `code` is what is to be answered, here and to a commit.
+    Ask { state: State, b: Bounded, code: u64 },
+    Commit { state: State, b: Bounded, code: u64 },
 }
 
 pub struct Case {
@@ -330,7 +327,6 @@ fn bounded_with(tasks: &[Task], routes: &[Vec<u64>], gap: u64, bounds: &[u64]) -
 /// A schedule with bounds that it just keeps, and what an ask for it walks.
 struct Promise {
     kept: instrument::Bounded,
-    kind: String,
     name: String,
     walked: u64,
     enumerating: u64,
@@ -340,14 +336,8 @@ struct Promise {
 impl Promise {
     fn of(kind: &str, chains: &[&[u64]], places: usize) -> Self {
         let (tasks, routes) = rounds(chains, places);
-        Self::with(kind, &tasks, &routes)
-    }
-
-    /// Chains of tasks by their numbers, which count from 1; all have as many places as the first.
-    fn with(kind: &str, tasks: &[Task], routes: &[Vec<u64>]) -> Self {
-        let places = routes[0].len();
         let (mut bounds, mut walked, mut steps) = (Vec::new(), 0, 0);
-        for route in routes {
+        for route in &routes {
             let chain: Vec<Task> = route.iter().map(|&number| tasks[number as usize - 1]).collect();
             let h = check(&chain, 0).expect("a chain that is accepted");
             bounds.push(greatest(&chain, 0, h));
@@ -356,9 +346,8 @@ impl Promise {
         }
         let several = |count: usize, what: &str| format!("{count} {what}{}", if count == 1 { "" } else { "s" });
         Promise {
-            kept: bounded_with(tasks, routes, 0, &bounds),
-            kind: kind.to_string(),
-            name: format!("{kind}, {} of {}", several(routes.len(), "chain"), several(places, "place")),
+            kept: bounded_with(&tasks, &routes, 0, &bounds),
+            name: format!("{kind}, {} of {}", several(chains.len(), "chain"), several(places, "place")),
             walked,
             enumerating: steps,
             work: walked * places as u64,
@@ -372,16 +361,10 @@ impl Promise {
         b
     }
 
-    /// The state in which it runs, with a proposal of the firmware's or without one.
+    /// The state in which it runs, with a proposal or without one.
     fn running(&self, proposal: Option<instrument::Bounded>) -> State {
         let state = instrument::State::make(&self.kept).expect("bounds that are kept");
-        State::of(instrument::State { firmware: proposal.map(|b| b.cleared()), ..state })
-    }
-
-    /// The state in which it runs, and is the tablet's proposal too.
-    fn looked_at(&self) -> State {
-        let state = instrument::State::make(&self.kept).expect("bounds that are kept");
-        State::of(instrument::State { tablet: Some(self.kept.cleared()), ..state })
+        State::of(instrument::State { proposal: proposal.map(|b| b.cleared()), ..state })
     }
 }
 
@@ -390,7 +373,7 @@ fn asking(running: &Promise, promise: &Promise) -> [Case; 2] {
     let case = |end: &str, b: instrument::Bounded, code: u64, enumerating: u64| Case {
         group: "ask",
         name: format!("{}, walked {}{end}", promise.name, promise.walked),
-        call: Call::Ask { state: running.running(None), party: FIRMWARE, b: Bounded::of(b), code },
+        call: Call::Ask { state: running.running(None), b: Bounded::of(b), code },
         enumerating,
         work: promise.work,
     };
@@ -402,68 +385,21 @@ fn asking_nothing(running: &Promise) -> Case {
     Case {
         group: "ask",
         name: "no task and no chain, refused 8".to_string(),
-        call: Call::Ask { state: running.running(None), party: FIRMWARE, b: Bounded::of(bounded_with(&[], &[], 0, &[])), code: 8 },
+        call: Call::Ask { state: running.running(None), b: Bounded::of(bounded_with(&[], &[], 0, &[])), code: 8 },
         enumerating: u64::MAX,
         work: 1,
     }
 }
 
-/// An ask by a party that there is not: what handing over costs alone.
-fn asking_by_nobody(running: &Promise) -> Case {
-    Case {
-        group: "ask",
-        name: "by nobody, refused 24".to_string(),
-        call: Call::Ask { state: running.running(None), party: NOBODY, b: Bounded::of(running.kept), code: 24 },
-        enumerating: u64::MAX,
-        work: 1,
-    }
-}
-
-fn committing(running: &Promise, promise: &Promise, party: u64, proposal: Option<instrument::Bounded>, code: u64) -> Case {
-    let by = if party == FIRMWARE { "" } else { ", by the tablet" };
+fn committing(running: &Promise, promise: &Promise, proposal: Option<instrument::Bounded>, code: u64) -> Case {
     let refused = if code == 0 { String::new() } else { format!(", refused {code}") };
     Case {
         group: "commit",
-        name: format!("{}{by}{refused}", promise.name),
-        call: Call::Commit { state: running.running(proposal), party, b: Bounded::of(promise.kept), code },
+        name: format!("{}{refused}", promise.name),
+        call: Call::Commit { state: running.running(proposal), b: Bounded::of(promise.kept), code },
         // There is nothing to enumerate.
         enumerating: u64::MAX,
         work: 1,
-    }
-}
-
-/// The tablet, or nobody, reads a chain of what runs, with lists that hold the table, or with none.
-fn looking(running: &Promise, party: u64, chain: usize, code: u64) -> Case {
-    let b = &running.kept;
-    let (mut text, mut steps, mut work, mut slots) = (running.kind.clone(), u64::MAX, 1, 4);
-    if b.chains != 1 {
-        text += &format!(", chain {chain} of {}", b.chains);
-    }
-    if code == 0 || code == 11 {
-        let route = &b.routes[chain - 1];
-        let tasks: Vec<Task> = route.places[..route.count].iter().map(|&number| b.tasks[number as usize - 1].task).collect();
-        let h = check(&tasks, b.gap).expect("a chain that is accepted");
-        let walked = h / tasks[longest_place(&tasks)].period;
-        let anchors = anchors_in(&tasks, b.gap, h);
-        text += &format!(", {} places, H {h}, walked {walked}, {}", tasks.len(), anchors_text(anchors as usize));
-        work = walked * tasks.len() as u64;
-        slots = if code == 0 { anchors as usize + 2 } else { 0 };
-        if code == 0 {
-            steps = h * tasks.len() as u64;
-        }
-    }
-    let refused = match code {
-        0 => String::new(),
-        11 => ", lists of none, refused 11".to_string(),
-        24 => ", by nobody, refused 24".to_string(),
-        code => format!(", chain {chain}, refused {code}"),
-    };
-    Case {
-        group: "read running",
-        name: text + &refused,
-        call: Call::Look { state: running.looked_at(), party, chain, slots, code },
-        enumerating: steps,
-        work,
     }
 }
 
@@ -562,7 +498,6 @@ pub fn all() -> Vec<Case> {
     let harmonic = Promise::of("harmonic", &[&doubling(250, 8)[..]; 4], 8);
     let single = Promise::of("harmonic", &[&[250]], 1);
     let primes: &[u64] = &[2, 3, 5, 7, 11, 13, 17];
-    cases.push(asking_by_nobody(&harmonic));
     cases.push(asking_nothing(&harmonic));
     cases.extend(asking(&harmonic, &single));
     cases.extend(asking(&harmonic, &harmonic));
@@ -570,30 +505,15 @@ pub fn all() -> Vec<Case> {
     cases.extend(asking(&harmonic, &Promise::of("co-prime", &[primes; 4], 7)));
     // As many partitions as a party will have in a round (order 12 of document 02), at the most places.
     cases.extend(asking(&harmonic, &Promise::of("co-prime", &[primes, primes, primes, &[10, 991, 993]], 12)));
-    cases.push(committing(&harmonic, &single, FIRMWARE, Some(single.kept), 0));
-    cases.push(committing(&harmonic, &harmonic, FIRMWARE, Some(harmonic.kept), 0));
-    cases.push(committing(&harmonic, &harmonic, FIRMWARE, None, 22));
+    cases.push(committing(&harmonic, &single, Some(single.kept), 0));
+    cases.push(committing(&harmonic, &harmonic, Some(harmonic.kept), 0));
+    cases.push(committing(&harmonic, &harmonic, None, 22));
     // The last bound differs.
-    cases.push(committing(&harmonic, &harmonic, FIRMWARE, Some(harmonic.broken()), 23));
-    cases.push(committing(&harmonic, &harmonic, TABLET, Some(harmonic.kept), 25));
-    // Chain A of document 01, and chains of "making".
-    let a = Promise::with("chain A", &[Task { period: 4, duration: 4, phase: 0 }, Task { period: 6, duration: 6, phase: 0 }], &[vec![1, 2]]);
-    let case_study = Promise::of("published", &[&published], 5);
-    let many = Promise::of("co-prime", &[coprime[4]], 4);
-    let most = Promise::of("co-prime", &[coprime[3]], 3);
-    cases.push(looking(&a, TABLET, 1, 0));
-    cases.push(looking(&harmonic, TABLET, 4, 0));
-    cases.push(looking(&case_study, TABLET, 1, 0));
-    cases.push(looking(&many, TABLET, 1, 0));
-    cases.push(looking(&most, TABLET, 1, 0));
-    cases.push(looking(&a, NOBODY, 1, 24));
-    cases.push(looking(&a, TABLET, 2, 16));
-    cases.push(looking(&a, TABLET, 1, 11));
-    cases.push(looking(&many, TABLET, 1, 11));
+    cases.push(committing(&harmonic, &harmonic, Some(harmonic.broken()), 23));
     cases
 }
 
-/// The lists that making, histograms and reads of what runs write to, and the instrument's state; they stay from call to call.
+/// The lists that making and histograms write to, and the instrument's state; they stay from call to call.
 pub struct Lists {
     starts: Vec<u64>,
     latencies: Vec<u64>,
@@ -603,7 +523,7 @@ pub struct Lists {
 
 impl Lists {
     pub fn of(case: &Case) -> Self {
-        let slots = if let Call::Make { slots, .. } | Call::Look { slots, .. } = case.call { slots } else { 0 };
+        let slots = if let Call::Make { slots, .. } = case.call { slots } else { 0 };
         let entries = if let Call::Histogram { entries, .. } = case.call { entries } else { 0 };
         let state = if let Call::Ask { state, .. } | Call::Commit { state, .. } = &case.call { Some(Box::new(*state)) } else { None };
         Lists { starts: vec![RUBBISH; slots], latencies: vec![RUBBISH; slots], counts: vec![RUBBISH; entries], state }
@@ -695,12 +615,12 @@ fn repeat_load<P: Program>(seed: u64, places: usize, repeats: usize) -> u64 {
 }
 
 #[inline(never)]
-fn repeat_ask<P: Program>(party: u64, b: &Bounded, lists: &mut Lists, repeats: usize) -> u64 {
+fn repeat_ask<P: Program>(b: &Bounded, lists: &mut Lists, repeats: usize) -> u64 {
     let state = lists.state.as_mut().expect("a state");
     let mut digest = 0;
     for _ in 0..repeats {
         let mut out = [0; 4];
-        let code = P::ask(black_box(state), black_box(party), black_box(b), &mut out);
+        let code = P::ask(black_box(state), black_box(b), &mut out);
         digest = out.iter().fold(mix(digest, code), |digest, &latency| mix(digest, latency));
     }
     digest
@@ -708,26 +628,15 @@ fn repeat_ask<P: Program>(party: u64, b: &Bounded, lists: &mut Lists, repeats: u
 
 /// A proposal that was made to run is put back, so that it stands at each call.
 #[inline(never)]
-fn repeat_commit<P: Program>(from: &State, party: u64, b: &Bounded, lists: &mut Lists, repeats: usize) -> u64 {
+fn repeat_commit<P: Program>(from: &State, b: &Bounded, lists: &mut Lists, repeats: usize) -> u64 {
     let state = lists.state.as_mut().expect("a state");
     let mut digest = 0;
     for _ in 0..repeats {
-        let code = P::commit(black_box(state), black_box(party), black_box(b));
+        let code = P::commit(black_box(state), black_box(b));
         if code == 0 {
             P::put_back(state, from);
         }
         digest = mix(digest, code);
-    }
-    digest
-}
-
-#[inline(never)]
-fn repeat_look<P: Program>(state: &State, party: u64, chain: usize, lists: &mut Lists, repeats: usize) -> u64 {
-    let mut digest = 0;
-    for _ in 0..repeats {
-        let mut figures = [0; 4];
-        let code = P::look(black_box(state), black_box(party), black_box(chain), &mut lists.starts, &mut lists.latencies, &mut figures);
-        digest = figures.iter().fold(mix(digest, code), |digest, &figure| mix(digest, figure));
     }
     digest
 }
@@ -762,9 +671,8 @@ pub fn repeat<P: Program>(case: &Case, lists: &mut Lists, repeats: usize) -> u64
         Call::Bookings { schedule, ticks } => digest = repeat_bookings::<P>(schedule, ticks, repeats),
         Call::Phase { schedule, number, bound } => digest = repeat_phase::<P>(schedule, *number, *bound, repeats),
         Call::Load { seed, places } => digest = repeat_load::<P>(*seed, *places, repeats),
-        Call::Ask { party, b, .. } => digest = repeat_ask::<P>(*party, b, lists, repeats),
-        Call::Commit { state, party, b, .. } => digest = repeat_commit::<P>(state, *party, b, lists, repeats),
-        Call::Look { state, party, chain, .. } => digest = repeat_look::<P>(state, *party, *chain, lists, repeats),
+        Call::Ask { b, .. } => digest = repeat_ask::<P>(b, lists, repeats),
+        Call::Commit { state, b, .. } => digest = repeat_commit::<P>(state, b, lists, repeats),
     }
     digest
 }
@@ -832,29 +740,17 @@ pub fn answers<P: Program>(case: &Case) -> Vec<u64> {
                 all.extend(out);
             }
         }
-        Call::Ask { state, party, b, .. } => {
+        Call::Ask { state, b, .. } => {
             let mut state = *state;
             let mut out = [RUBBISH; 4];
-            all.push(P::ask(&mut state, *party, b, &mut out));
+            all.push(P::ask(&mut state, b, &mut out));
             all.extend(out);
             all.extend(P::state(&state));
         }
-        Call::Commit { state, party, b, .. } => {
+        Call::Commit { state, b, .. } => {
             let mut state = *state;
-            all.push(P::commit(&mut state, *party, b));
+            all.push(P::commit(&mut state, b));
             all.extend(P::state(&state));
-        }
-        Call::Look { state, party, chain, .. } => {
-            let mut lists = Lists::of(case);
-            let mut figures = [RUBBISH; 4];
-            all.push(P::look(state, *party, *chain, &mut lists.starts, &mut lists.latencies, &mut figures));
-            all.extend(figures);
-            all.extend(lists.starts);
-            all.extend(lists.latencies);
-            let mut again = Lists::of(case);
-            all.extend(P::look_whole(state, *party, *chain, &mut again.starts, &mut again.latencies));
-            all.extend(again.starts);
-            all.extend(again.latencies);
         }
     }
     all
@@ -867,10 +763,10 @@ pub fn digest(answers: &[u64]) -> u64 {
     hasher.finish()
 }
 
-/// Whether an answer is a refusal. Every case is meant to be accepted, but for asks, commits and reads of what runs that say how they are refused.
+/// Whether an answer is a refusal. Every case is meant to be accepted, but for asks and commits that say how they are refused.
 pub fn refuses(case: &Case, answers: &[u64]) -> bool {
     match case.call {
-        Call::Ask { code, .. } | Call::Commit { code, .. } | Call::Look { code, .. } => answers[0] != code,
+        Call::Ask { code, .. } | Call::Commit { code, .. } => answers[0] != code,
         Call::Make { .. } | Call::Histogram { .. } | Call::Windows { .. } | Call::Sections { .. } | Call::Phase { .. } => answers[0] != 0,
         Call::Read { .. } => answers.iter().any(|&answer| REFUSED <= answer),
         Call::Delay { .. } | Call::Age { .. } => answers.chunks(2).any(|pair| pair[0] != 0),

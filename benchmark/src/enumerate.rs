@@ -203,13 +203,8 @@ pub fn section_latencies(tasks: &[Task], gap: u64, cuts: &[u64]) -> Result<Secti
 }
 
 /// Every tick of each chain's hyperperiod.
-pub fn ask(state: &mut instrument::State, party: u64, b: &instrument::Bounded) -> Result<Latencies, Refusal> {
-    state.ask_by(greatest, party, b)
-}
-
-/// Every tick of the chain's hyperperiod.
-pub fn read<'a>(state: &'a instrument::State, party: u64, n: usize, starts: &mut [u64], latencies: &mut [u64]) -> instrument::Look<'a> {
-    state.read_by(make_table, party, n, starts, latencies)
+pub fn ask(state: &mut instrument::State, b: &instrument::Bounded) -> Result<Latencies, Refusal> {
+    state.ask_by(greatest, b)
 }
 
 /// The difference at every tick of the common hyperperiod, walked as the plain program walks.

@@ -4,7 +4,7 @@
 //!
 //! Every program's answers are compared with the proved one's: in full before anything is measured, and by a digest with every sample. The digest
 //! of making has its code and figures, that of a histogram its code and rest, not their lists; that of an ask its code and latencies and that of a
-//! commit its code, not the state; that of a read of what runs its code and figures, not the lists nor what else is shown.
+//! commit its code, not the state.
 //! With --no-divider the executable beside this one with `-no-divider` in its name is counted too: the same programs, with each division by a loop.
 //! The last line is 'N passed, M failed': two programs that answer a case alike are one pass.
 mod cases;
@@ -239,12 +239,12 @@ fn main() {
         let other = match case.group {
             "making" => Some((&DIVIDING, "proved/dividing")),
             "histogram" => Some((&BY_ENTRIES, "proved/by entries")),
-            "ask" | "commit" | "read running" => Some((&BY_VALUE, "proved/by value")),
+            "ask" | "commit" => Some((&BY_VALUE, "proved/by value")),
             _ => None,
         };
         let mut programs = vec![&PROVED, &PLAIN];
         programs.extend(other.map(|(program, _)| program));
-        if formed && !["reading", "histogram", "sections", "bookings", "phase", "load", "ask", "commit", "read running"].contains(&case.group) {
+        if formed && !["reading", "histogram", "sections", "bookings", "phase", "load", "ask", "commit"].contains(&case.group) {
             programs.extend([&BY_VALUE, &FLAT]);
         }
         if case.enumerating <= limits.enumerating {

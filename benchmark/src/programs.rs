@@ -3,11 +3,10 @@ use crate::enumerate;
 use forms::{by_entries, by_value, flat, handed};
 use plain::bookings::Bookings;
 use plain::instrument;
-use plain::maker::{Figures, Made};
+use plain::maker::Made;
 use plain::sections::Sections;
 use plain::task::Task;
 use plain::Refusal;
-use std::hint::black_box;
 
 pub const REFUSED: u64 = 1 << 32;
 
@@ -34,9 +33,7 @@ pub struct Schedule {
 
 /// How many numbers a schedule with bounds has for C, and a state.
 const BOUNDED: usize = 32 * 4 + 4 * 13 + 3 + 4;
-const STATE: usize = 3 * BOUNDED + 2;
-/// How many the answer to a read has.
-const SHOWN: usize = 2 * BOUNDED + 7;
+const STATE: usize = 2 * BOUNDED + 1;
 
 /// A schedule with bounds in the two ways.
 pub struct Bounded {
@@ -65,13 +62,11 @@ impl Bounded {
     }
 }
 
-fn side_of(proposal: Option<&instrument::Bounded>) -> c::Side {
-    c::Side { proposal: c::Bounded(proposal.map_or([0; BOUNDED], numbers_of)), stands: proposal.is_some() as u64 }
-}
-
 impl State {
     pub fn of(plain: instrument::State) -> Self {
-        State { plain, handed: c::State { running: c::Bounded(numbers_of(&plain.running)), firmware: side_of(plain.firmware.as_ref()), tablet: side_of(plain.tablet.as_ref()) } }
+        let proposal = plain.proposal.as_ref().map_or([0; BOUNDED], numbers_of);
+        let stands = plain.proposal.is_some() as u64;
+        State { plain, handed: c::State { running: c::Bounded(numbers_of(&plain.running)), proposal: c::Bounded(proposal), stands } }
     }
 }
 
@@ -96,23 +91,15 @@ pub trait Program {
         give_load(plain::load::make_load(seed, places), out)
     }
     /// The latencies. What has the state otherwise than the plain program, or analyses otherwise, has its own ask.
-    fn ask(state: &mut State, party: u64, b: &Bounded, out: &mut [u64; 4]) -> u64 {
-        give(state.plain.ask(party, &b.plain), out)
+    fn ask(state: &mut State, b: &Bounded, out: &mut [u64; 4]) -> u64 {
+        give(state.plain.ask(&b.plain), out)
     }
-    fn commit(state: &mut State, party: u64, b: &Bounded) -> u64 {
-        give(state.plain.commit(party, &b.plain), &mut ())
+    fn commit(state: &mut State, b: &Bounded) -> u64 {
+        give(state.plain.commit(&b.plain), &mut ())
     }
-    /// Puts the firmware's proposal of another state into this one.
+    /// Puts the proposal of another state into this one.
     fn put_back(state: &mut State, from: &State) {
-        state.plain.firmware = from.plain.firmware;
-    }
-    /// The figures of the table of a chain of what runs; the anchors are left in the lists.
-    fn look(state: &State, party: u64, chain: usize, starts: &mut [u64], latencies: &mut [u64], figures: &mut [u64; 4]) -> u64 {
-        give_look(state.plain.read(party, chain, starts, latencies), figures)
-    }
-    /// The same with what is shown beside them, every number as C has it.
-    fn look_whole(state: &State, party: u64, chain: usize, starts: &mut [u64], latencies: &mut [u64]) -> [u64; SHOWN] {
-        shown_numbers(state.plain.read(party, chain, starts, latencies))
+        state.plain.proposal = from.plain.proposal;
     }
     /// Every number of the state, as C has it.
     fn state(state: &State) -> [u64; STATE] {
@@ -131,36 +118,6 @@ fn give_table(made: Made, figures: &mut [u64; 4]) -> u64 {
     };
     *figures = [f.anchors as u64, f.tick, f.hyperperiod, f.walked];
     code
-}
-
-fn numbers_of_figures(f: &Figures) -> [u64; 4] {
-    [f.anchors as u64, f.tick, f.hyperperiod, f.walked]
-}
-
-fn give_look(look: instrument::Look, figures: &mut [u64; 4]) -> u64 {
-    let (given, code) = match look {
-        instrument::Look::Whole(shown) => (numbers_of_figures(&black_box(shown).figures), 0),
-        instrument::Look::Short(f) => (numbers_of_figures(&f), 11),
-        instrument::Look::Refused(r) => ([0; 4], r.code()),
-    };
-    *figures = given;
-    code
-}
-
-/// The fields of an answer to a read in the order in which C has them.
-fn shown_of(refusal: Refusal, shown: Option<(&instrument::Bounded, Option<&instrument::Bounded>)>, figures: [u64; 4]) -> [u64; SHOWN] {
-    let running = shown.map_or([0; BOUNDED], |(running, _)| numbers_of(running));
-    let mine = side_of(shown.and_then(|(_, proposal)| proposal));
-    let all: Vec<u64> = [refusal.number, refusal.place as u64].into_iter().chain(running).chain(mine.proposal.0).chain([mine.stands]).chain(figures).collect();
-    all.try_into().expect("every field")
-}
-
-fn shown_numbers(look: instrument::Look) -> [u64; SHOWN] {
-    match look {
-        instrument::Look::Whole(shown) => shown_of(Refusal { number: 0, place: 0 }, Some((shown.running, shown.proposal)), numbers_of_figures(&shown.figures)),
-        instrument::Look::Short(f) => shown_of(Refusal { number: 11, place: 0 }, None, numbers_of_figures(&f)),
-        instrument::Look::Refused(r) => shown_of(r, None, [0; 4]),
-    }
 }
 
 fn give<T: Default>(answer: Result<T, Refusal>, out: &mut T) -> u64 {
@@ -226,17 +183,10 @@ mod c {
 
     #[repr(C)]
     #[derive(Clone, Copy)]
-    pub struct Side {
-        pub proposal: Bounded,
-        pub stands: u64,
-    }
-
-    #[repr(C)]
-    #[derive(Clone, Copy)]
     pub struct State {
         pub running: Bounded,
-        pub firmware: Side,
-        pub tablet: Side,
+        pub proposal: Bounded,
+        pub stands: u64,
     }
 
     #[repr(C)]
@@ -258,18 +208,9 @@ mod c {
         pub refusal: Refusal,
     }
 
-    #[repr(C)]
-    pub struct Shown {
-        pub refusal: Refusal,
-        pub running: Bounded,
-        pub mine: Side,
-        pub figures: [u64; 4],
-    }
-
     impl State {
         pub fn numbers(&self) -> [u64; super::STATE] {
-            let sides = [&self.firmware, &self.tablet].into_iter().flat_map(|side| side.proposal.0.into_iter().chain([side.stands]));
-            let all: Vec<u64> = self.running.0.into_iter().chain(sides).collect();
+            let all: Vec<u64> = self.running.0.into_iter().chain(self.proposal.0).chain([self.stands]).collect();
             all.try_into().expect("every field")
         }
     }
@@ -303,9 +244,8 @@ mod c {
             tasks: *const u64, tasks_length: usize, count: usize, chains: *const u64, chains_length: usize, places: *const u64, places_length: usize,
             chain_count: usize, gap: u64, chain: usize, number: u64, bound: u64, phase: *mut u64, none: *mut u64,
         ) -> u64;
-        pub fn mo_ask(s: State, party: u64, b: Bounded) -> Asked;
-        pub fn mo_commit(s: State, party: u64, b: Bounded) -> Committed;
-        pub fn mo_read_running(s: State, party: u64, chain: usize, starts: *mut u64, n: usize, latencies: *mut u64, m: usize) -> Shown;
+        pub fn mo_ask(s: State, b: Bounded) -> Asked;
+        pub fn mo_commit(s: State, b: Bounded) -> Committed;
     }
 }
 
@@ -362,34 +302,22 @@ impl Program for Proved {
         unsafe { c::mo_load(seed, places, out.as_mut_ptr()) }
     }
 
-    fn ask(state: &mut State, party: u64, b: &Bounded, out: &mut [u64; 4]) -> u64 {
-        let asked = unsafe { c::mo_ask(state.handed, party, b.handed) };
+    fn ask(state: &mut State, b: &Bounded, out: &mut [u64; 4]) -> u64 {
+        let asked = unsafe { c::mo_ask(state.handed, b.handed) };
         state.handed = asked.state;
         *out = asked.latencies;
         asked.refusal.code()
     }
 
-    fn commit(state: &mut State, party: u64, b: &Bounded) -> u64 {
-        let committed = unsafe { c::mo_commit(state.handed, party, b.handed) };
+    fn commit(state: &mut State, b: &Bounded) -> u64 {
+        let committed = unsafe { c::mo_commit(state.handed, b.handed) };
         state.handed = committed.state;
         committed.refusal.code()
     }
 
     fn put_back(state: &mut State, from: &State) {
-        state.handed.firmware = from.handed.firmware;
-    }
-
-    fn look(state: &State, party: u64, chain: usize, starts: &mut [u64], latencies: &mut [u64], figures: &mut [u64; 4]) -> u64 {
-        let shown = unsafe { c::mo_read_running(state.handed, party, chain, starts.as_mut_ptr(), starts.len(), latencies.as_mut_ptr(), latencies.len()) };
-        *figures = shown.figures;
-        shown.refusal.code()
-    }
-
-    fn look_whole(state: &State, party: u64, chain: usize, starts: &mut [u64], latencies: &mut [u64]) -> [u64; SHOWN] {
-        let shown = unsafe { c::mo_read_running(state.handed, party, chain, starts.as_mut_ptr(), starts.len(), latencies.as_mut_ptr(), latencies.len()) };
-        let mine = shown.mine.proposal.0.into_iter().chain([shown.mine.stands]);
-        let all: Vec<u64> = [shown.refusal.number, shown.refusal.place as u64].into_iter().chain(shown.running.0).chain(mine).chain(shown.figures).collect();
-        all.try_into().expect("every field")
+        state.handed.proposal = from.handed.proposal;
+        state.handed.stands = from.handed.stands;
     }
 
     fn state(state: &State) -> [u64; STATE] {
@@ -472,16 +400,8 @@ impl Program for Enumerating {
         give_phase(enumerate::smallest_phase(&schedule.plain, 1, number, bound), out)
     }
 
-    fn ask(state: &mut State, party: u64, b: &Bounded, out: &mut [u64; 4]) -> u64 {
-        give(enumerate::ask(&mut state.plain, party, &b.plain), out)
-    }
-
-    fn look(state: &State, party: u64, chain: usize, starts: &mut [u64], latencies: &mut [u64], figures: &mut [u64; 4]) -> u64 {
-        give_look(enumerate::read(&state.plain, party, chain, starts, latencies), figures)
-    }
-
-    fn look_whole(state: &State, party: u64, chain: usize, starts: &mut [u64], latencies: &mut [u64]) -> [u64; SHOWN] {
-        shown_numbers(enumerate::read(&state.plain, party, chain, starts, latencies))
+    fn ask(state: &mut State, b: &Bounded, out: &mut [u64; 4]) -> u64 {
+        give(enumerate::ask(&mut state.plain, &b.plain), out)
     }
 }
 
@@ -559,34 +479,16 @@ impl Program for ByValue {
         Plain::bookings(schedule, t, out)
     }
 
-    fn ask(state: &mut State, party: u64, b: &Bounded, out: &mut [u64; 4]) -> u64 {
-        let asked = handed::ask(state.plain, party, b.plain);
+    fn ask(state: &mut State, b: &Bounded, out: &mut [u64; 4]) -> u64 {
+        let asked = handed::ask(state.plain, b.plain);
         state.plain = asked.state;
         give(asked.answer, out)
     }
 
-    fn commit(state: &mut State, party: u64, b: &Bounded) -> u64 {
-        let committed = handed::commit(state.plain, party, b.plain);
+    fn commit(state: &mut State, b: &Bounded) -> u64 {
+        let committed = handed::commit(state.plain, b.plain);
         state.plain = committed.state;
         give(committed.answer, &mut ())
-    }
-
-    fn look(state: &State, party: u64, chain: usize, starts: &mut [u64], latencies: &mut [u64], figures: &mut [u64; 4]) -> u64 {
-        let (given, code) = match &handed::read(state.plain, party, chain, starts, latencies) {
-            handed::Look::Whole(shown) => (numbers_of_figures(&shown.figures), 0),
-            handed::Look::Short(f) => (numbers_of_figures(f), 11),
-            handed::Look::Refused(r) => ([0; 4], r.code()),
-        };
-        *figures = given;
-        code
-    }
-
-    fn look_whole(state: &State, party: u64, chain: usize, starts: &mut [u64], latencies: &mut [u64]) -> [u64; SHOWN] {
-        match &handed::read(state.plain, party, chain, starts, latencies) {
-            handed::Look::Whole(shown) => shown_of(Refusal { number: 0, place: 0 }, Some((&shown.running, shown.proposal.as_ref())), numbers_of_figures(&shown.figures)),
-            handed::Look::Short(f) => shown_of(Refusal { number: 11, place: 0 }, None, numbers_of_figures(f)),
-            handed::Look::Refused(r) => shown_of(*r, None, [0; 4]),
-        }
     }
 }
 

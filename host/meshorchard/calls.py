@@ -84,13 +84,6 @@ class Asking:
     latencies: Tuple[int, ...]  # of each chain, in order
 
 
-@dataclass(frozen=True)
-class Showing:
-    running: Bounded
-    proposal: Optional[Bounded]  # of the party that reads, where one stands
-    table: Making
-
-
 def _sound(code: int, left, of: str) -> None:
     """Nothing after a success, in which each number that was lent must be written. After a refusal each must be 0."""
     if UNWRITTEN in left:
@@ -275,39 +268,22 @@ def _answered(answer, kept: State):
 
 
 def make_state(bounded: Bounded) -> State:
-    """A state in which this runs and no proposal stands, of either party."""
+    """A state in which this runs and no proposal stands."""
     return _answered(library.load().mo_make_state(bounded), State()).state
 
 
-def ask(state: State, party: int, bounded: Bounded) -> Asking:
-    """The state with this as the party's proposal, and the greatest latency of each chain. A refusal leaves the state as it is."""
-    answer = _answered(library.load().mo_ask(state, number(party), bounded), state)
+def ask(state: State, bounded: Bounded) -> Asking:
+    """The state with this as its proposal, and the greatest latency of each chain. A refusal leaves the state as it is."""
+    answer = _answered(library.load().mo_ask(state, bounded), state)
     chains = bounded.schedule.chain_count
     if chains > 4 or any(answer.latencies[chains:]):
         raise Broken(f"the latencies of {chains} chains are {list(answer.latencies)}")
     return Asking(answer.state, tuple(answer.latencies[:chains]))
 
 
-def commit(state: State, party: int, bounded: Bounded) -> State:
-    """The state in which the firmware's proposal runs, which is named again. A refusal leaves the state as it is."""
-    return _answered(library.load().mo_commit(state, number(party), bounded), state).state
-
-
-def read_running(state: State, party: int, number_of_chain: int, starts: WritableNumbers, latencies: WritableNumbers) -> Showing:
-    """What runs, the party's own proposal, and the table of a chain of what runs, cut at the longest period: its anchors are left in the lists. Where the lists are too short the refusal has what was
-    made: its `made`."""
-    answer = library.load().mo_read_running(state, number(party), number(number_of_chain), *lend_to_write(starts), *lend_to_write(latencies))
-    refusal, made = answer.refusal, Making(answer.anchors, answer.tick, answer.hyperperiod, answer.walked)
-    left = structs.Shown(refusal)
-    if refusal.number == 0:
-        if refusal.place or not answer.stands and any(bytes(answer.proposal)):
-            raise Broken(f"a success has the place {refusal.place}, or a proposal that does not stand")
-        return Showing(answer.running, answer.proposal if answer.stands else None, made)
-    if refusal.number == 11:
-        left.anchors, left.tick, left.hyperperiod, left.walked = answer.anchors, answer.tick, answer.hyperperiod, answer.walked
-    if answer != left:
-        raise Broken(f"beside the refusal {refusal.number} the call handed back more")
-    raise Refused(refusal.number, refusal.place, "schedule", *([made] if refusal.number == 11 else []))
+def commit(state: State, bounded: Bounded) -> State:
+    """The state in which the proposal runs, which is named again. A refusal leaves the state as it is."""
+    return _answered(library.load().mo_commit(state, bounded), state).state
 
 
 # ---- Reports

@@ -43,9 +43,8 @@ DECLARED = {
     "mo_smallest_phase": (*SCHEDULE, SIZE, NUMBER, NUMBER, NUMBERS, NUMBERS),
     "mo_bounded_schedule": (*SCHEDULE, NUMBERS),
     "mo_make_state": (structs.Bounded,),
-    "mo_ask": (structs.State, NUMBER, structs.Bounded),
-    "mo_commit": (structs.State, NUMBER, structs.Bounded),
-    "mo_read_running": (structs.State, NUMBER, SIZE, NUMBERS, SIZE, NUMBERS, SIZE),
+    "mo_ask": (structs.State, structs.Bounded),
+    "mo_commit": (structs.State, structs.Bounded),
     "mo_report": (BYTES, SIZE, BYTES, SIZE),
 }
 # What a call hands back; a number where nothing is said.
@@ -54,7 +53,6 @@ GIVES = {
     "mo_make_state": structs.MadeState,
     "mo_ask": structs.Asked,
     "mo_commit": structs.Committed,
-    "mo_read_running": structs.Shown,
 }
 
 

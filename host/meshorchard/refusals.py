@@ -64,10 +64,8 @@ MEANINGS = {
     19: Meaning("the task is not in the chain", "a phase is looked for of a task that fills a place of the chain, named by its number"),
     20: Meaning("the task's period is too long for a search of its phases", "its period is at most 10,000 ticks, which is 10 ms"),
     21: Meaning("a chain's greatest latency is above its bound", "no chain of a schedule that is asked for, or that a state is made of, has a greatest latency above the bound that goes with it"),
-    22: Meaning("there is no proposal to commit", "a schedule with its bounds is asked for by the firmware first, and then committed"),
-    23: Meaning("what is committed is not the proposal", "a commit names the schedule and the bounds of the firmware's last ask that was not refused"),
-    24: Meaning("the party is unknown", "party 1 is the firmware, party 2 the tablet"),
-    25: Meaning("the party may not make this call", "the firmware may read, ask and commit, the tablet read and ask"),
+    22: Meaning("there is no proposal to commit", "a schedule with its bounds is asked for first, and then committed"),
+    23: Meaning("what is committed is not the proposal", "a commit names the schedule and the bounds of the last ask that was not refused"),
 }
 
 # What the place counts: in a file, in a schedule, in a chain.
@@ -113,7 +111,7 @@ class Refused(Exception):
         self.number = number
         self.place = place
         self.of = of
-        # Only making and a read of what runs give figures with a refusal: those of a table for which the lists are too short.
+        # Only making gives figures with a refusal: those of a table for which the lists are too short.
         self.made = made
 
     @property

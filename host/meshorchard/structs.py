@@ -48,19 +48,15 @@ class Side(_Struct):
     _fields_ = [("proposal", Bounded), ("stands", NUMBER)]
 
 
-# Who makes a call.
-FIRMWARE, TABLET = 1, 2
-
-
 class State(_Struct):
-    """What runs, and the proposal of each party. Hand it on as it is."""
+    """What runs, and the proposal. Hand it on as it is."""
 
-    _fields_ = [("running", Bounded), ("firmware", Side), ("tablet", Side)]
+    _fields_ = [("running", Bounded), ("firmware", Side)]
 
-    def proposal(self, party: int) -> Optional[Bounded]:
-        """The proposal of a party, where one stands."""
-        side = {FIRMWARE: self.firmware, TABLET: self.tablet}.get(party)
-        return side.proposal if side and side.stands else None
+    @property
+    def proposal(self) -> Optional[Bounded]:
+        """The proposal, where one stands."""
+        return self.firmware.proposal if self.firmware.stands else None
 
 
 class Refusal(_Struct):
@@ -77,10 +73,6 @@ class Asked(_Struct):
 
 class Committed(_Struct):
     _fields_ = [("state", State), ("refusal", Refusal)]
-
-
-class Shown(_Struct):
-    _fields_ = [("refusal", Refusal), ("running", Bounded), ("proposal", Bounded), ("stands", NUMBER), ("anchors", SIZE), ("tick", NUMBER), ("hyperperiod", NUMBER), ("walked", NUMBER)]
 
 
 def four(bounds: Sequence[int]) -> ctypes.Array:

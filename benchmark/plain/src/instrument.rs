@@ -1,10 +1,8 @@
-//! The instrument's state: what runs, and at most one proposal of each party. An ask tries a schedule with bounds and keeps it as the party's proposal; a commit makes the firmware's proposal run and
-//! clears both. A read shows what runs, the party's proposal and the table of a chain.
-//! Here a schedule has arrays and counts, so that a state is one piece without a heap. It stays where it is, and what is asked, named or shown is lent.
+//! The instrument's state: what runs, and at most one proposal. An ask tries a schedule with bounds and keeps it as the proposal; a commit makes the proposal run.
+//! Here a schedule has arrays and counts, so that a state is one piece without a heap. It stays where it is, and what is asked or named is lent.
 use crate::chain::check;
-use crate::latency::{greatest, longest_place};
-use crate::maker::{make_table, Figures, Made};
-use crate::schedule::{check_parts, choose, Chosen, NumberedTask, MOST_CHAINS, MOST_TASKS};
+use crate::latency::greatest;
+use crate::schedule::{check_parts, choose, NumberedTask, MOST_CHAINS, MOST_TASKS};
 use crate::task::Task;
 use crate::{Refusal, MOST_PLACES};
 
@@ -64,19 +62,6 @@ impl Bounded {
             && self.routes[..self.chains].iter().all(|route| (1..=MOST_PLACES).contains(&route.count))
     }
 
-    /// The checks 8, 5 and 6, then chain n, n counted from 1, or 16.
-    #[inline]
-    fn chain(&self, n: usize) -> Result<Chosen, Refusal> {
-        if !self.counts_right() {
-            return Err(Refusal::new(8));
-        }
-        let tasks = &self.tasks[..self.count];
-        let routes = &self.routes[..self.chains];
-        check_parts(tasks, routes, self.gap)?;
-        let route = n.checked_sub(1).and_then(|at| routes.get(at)).ok_or(Refusal::new(16))?;
-        choose(tasks, route.as_ref())
-    }
-
     /// The checks 8, 5, 6 and, chain by chain, 7, then the latencies, and 21 where one is above its bound. What a chain is analysed with is told the chain and its hyperperiod.
     fn judge_by(&self, greatest: impl Fn(&[Task], u64, u64) -> u64) -> Result<Latencies, Refusal> {
         if !self.counts_right() {
@@ -102,38 +87,10 @@ impl Bounded {
     }
 }
 
-/// The parties.
-pub const FIRMWARE: u64 = 1;
-pub const TABLET: u64 = 2;
-
 #[derive(Clone, Copy, Debug, PartialEq, Eq)]
 pub struct State {
     pub running: Bounded,
-    pub firmware: Option<Bounded>,
-    pub tablet: Option<Bounded>,
-}
-
-/// What a party reads: what runs and its own proposal, lent, and the figures of the table.
-pub struct Shown<'a> {
-    pub running: &'a Bounded,
-    pub proposal: Option<&'a Bounded>,
-    pub figures: Figures,
-}
-
-pub enum Look<'a> {
-    Whole(Shown<'a>),
-    /// Refusal 11: the lists hold the first anchors that fit.
-    Short(Figures),
-    Refused(Refusal),
-}
-
-/// 24 for a party that there is not.
-fn known(party: u64) -> Result<(), Refusal> {
-    if party == FIRMWARE || party == TABLET {
-        Ok(())
-    } else {
-        Err(Refusal::new(24))
-    }
+    pub proposal: Option<Bounded>,
 }
 
 impl State {
@@ -141,59 +98,32 @@ impl State {
     pub fn make(b: &Bounded) -> Result<Self, Refusal> {
         let running = b.cleared();
         running.judge_by(greatest)?;
-        Ok(State { running, firmware: None, tablet: None })
+        Ok(State { running, proposal: None })
     }
 
     /// An ask by what each chain is analysed with.
     #[inline]
-    pub fn ask_by(&mut self, greatest: impl Fn(&[Task], u64, u64) -> u64, party: u64, b: &Bounded) -> Result<Latencies, Refusal> {
-        known(party)?;
+    pub fn ask_by(&mut self, greatest: impl Fn(&[Task], u64, u64) -> u64, b: &Bounded) -> Result<Latencies, Refusal> {
         let b = b.cleared();
         let latencies = b.judge_by(greatest)?;
-        *(if party == FIRMWARE { &mut self.firmware } else { &mut self.tablet }) = Some(b);
+        self.proposal = Some(b);
         Ok(latencies)
     }
 
-    pub fn ask(&mut self, party: u64, b: &Bounded) -> Result<Latencies, Refusal> {
-        self.ask_by(greatest, party, b)
+    pub fn ask(&mut self, b: &Bounded) -> Result<Latencies, Refusal> {
+        self.ask_by(greatest, b)
     }
 
-    /// 24, 25 for the tablet, 22 where no proposal of the firmware's stands, 23 where it is another.
-    pub fn commit(&mut self, party: u64, b: &Bounded) -> Result<(), Refusal> {
-        known(party)?;
-        if party != FIRMWARE {
-            return Err(Refusal::new(25));
-        }
-        let Some(proposal) = &self.firmware else {
+    /// 22 where no proposal stands, 23 where it is another.
+    pub fn commit(&mut self, b: &Bounded) -> Result<(), Refusal> {
+        let Some(proposal) = &self.proposal else {
             return Err(Refusal::new(22));
         };
         let b = b.cleared();
         if b != *proposal {
             return Err(Refusal::new(23));
         }
-        *self = State { running: b, firmware: None, tablet: None };
+        *self = State { running: b, proposal: None };
         Ok(())
-    }
-
-    /// A read by what makes a table of a chain that is cut at a place.
-    #[inline]
-    pub fn read_by(&self, make: impl Fn(&[Task], u64, usize, &mut [u64], &mut [u64]) -> Made, party: u64, n: usize, starts: &mut [u64], latencies: &mut [u64]) -> Look<'_> {
-        let chain = match known(party).and_then(|()| self.running.chain(n)) {
-            Err(refusal) => return Look::Refused(refusal),
-            Ok(chain) => chain,
-        };
-        let tasks = chain.tasks();
-        match make(tasks, self.running.gap, longest_place(tasks) + 1, starts, latencies) {
-            Made::Whole(figures) => {
-                let proposal = if party == FIRMWARE { &self.firmware } else { &self.tablet };
-                Look::Whole(Shown { running: &self.running, proposal: proposal.as_ref(), figures })
-            }
-            Made::Short(figures) => Look::Short(figures),
-            Made::Refused(refusal) => Look::Refused(refusal),
-        }
-    }
-
-    pub fn read(&self, party: u64, n: usize, starts: &mut [u64], latencies: &mut [u64]) -> Look<'_> {
-        self.read_by(make_table, party, n, starts, latencies)
     }
 }

@@ -28,7 +28,7 @@ fn told_figures(m: Made) -> Figures
 }
 
 // What making answered, the delay read from the table and the delay walked.
-#[derive(Drop)]
+#[derive(Clone, Copy)]
 pub struct Delays {
     pub made: Made,
     pub read: Reading,
@@ -53,7 +53,7 @@ pub fn table_is_walk(
 }
 
 // What making answered at each of two cuts.
-#[derive(Drop)]
+#[derive(Clone, Copy)]
 pub struct Cuts {
     pub first: Made,
     pub second: Made,
@@ -77,7 +77,7 @@ pub fn cuts_agree(
 }
 
 // What making answered, the table's greatest latency, a delay and an age.
-#[derive(Drop)]
+#[derive(Clone, Copy)]
 pub struct Bounds {
     pub made: Made,
     pub greatest: Greatest,
@@ -136,7 +136,7 @@ fn last_before(start: u64, latency: u64) -> u64
 }
 
 // What making answered, the table's greatest latency, an anchor, the delay at its start, and the age just before the press there is booked.
-#[derive(Drop)]
+#[derive(Clone, Copy)]
 pub struct Peak {
     pub made: Made,
     pub greatest: Greatest,

@@ -12,7 +12,7 @@ use refusal::Refusal;
 use task::Tick;
 
 // The later and the earlier of two bookings of one press, their difference, and the greatest difference over all presses; or the refusal.
-#[derive(Drop)]
+#[derive(Clone, Copy)]
 pub enum Bookings {
     Both {
         later: Tick,
@@ -24,7 +24,7 @@ pub enum Bookings {
 }
 
 // When a press is booked, and the tick from which on a press is booked later.
-#[derive(Drop)]
+#[derive(Clone, Copy)]
 pub struct Stretch {
     pub booking: Tick,
     pub until: Tick,

@@ -9,7 +9,7 @@ use task::Task;
 
 // A schedule and the bound of each chain, in their order. Bounds past the count of chains are no part of it, nor is any entry of the schedule past a count.
 #[repr(C)]
-#[derive(Drop)]
+#[derive(Clone, Copy)]
 pub struct Bounded {
     pub schedule: Schedule,
     pub bounds: [u64; 4],

@@ -1,4 +1,4 @@
--- Order 10 of document 02: how C makes a schedule with bounds. The calls on the state have the definitions of instrument/specs/Instrument, a read those of instrument_read/specs/Reading.
+-- Order 10 of document 02: how C makes a schedule with bounds. The calls on the state have the definitions of instrument/specs/Instrument.
 use Rattle.std.specs.Prelude.{ℕ, List}
 use Rattle.schedule.specs.declared.Schedule.{Schedule}
 use Rattle.bounded.specs.declared.Bounded.{Bounded}

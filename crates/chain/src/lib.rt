@@ -13,7 +13,7 @@ use task::{Job, Latest, Place, Task};
 
 // Document 01: one chain of 1 to 12 places; a task may fill several. Entries of `tasks` from `places` on are no part of the chain.
 // Order 5 of document 02: the gap of every link, 0 to 1,000 ticks.
-#[derive(Drop)]
+#[derive(Clone, Copy)]
 pub struct Chain {
     pub tasks: [Task; 12],
     pub places: usize,
@@ -21,7 +21,7 @@ pub struct Chain {
 }
 
 // What the checks 8, 5 and 7 say of a chain: accepted, with its hyperperiod, or refused.
-#[derive(Drop)]
+#[derive(Clone, Copy)]
 pub enum Verdict {
     Accepted(u64),
     Refused(Refusal),

@@ -12,35 +12,35 @@ use refusal::Refusal;
 const NOT_WELL_FORMED: u64 = 14;
 
 // The greatest latency.
-#[derive(Drop)]
+#[derive(Clone, Copy)]
 pub enum Greatest {
     Latency(u64),
     Refused(Refusal),
 }
 
 // The limit that the delay nears and never reaches.
-#[derive(Drop)]
+#[derive(Clone, Copy)]
 pub enum Low {
     Limit(u64),
     Refused(Refusal),
 }
 
 // The mean delay is area / ticks: the area under the delay over one hyperperiod and its ticks, both doubled, so that the area is a whole number.
-#[derive(Drop)]
+#[derive(Clone, Copy)]
 pub enum Mean {
     Doubled { area: u64, ticks: u64 },
     Refused(Refusal),
 }
 
 // Anchors in the ticks of one hyperperiod.
-#[derive(Drop)]
+#[derive(Clone, Copy)]
 pub enum Throughput {
     Anchors { count: usize, ticks: u64 },
     Refused(Refusal),
 }
 
 // The longest run of ticks with a delay above a bound. Endless: every delay is above it.
-#[derive(Drop)]
+#[derive(Clone, Copy)]
 pub enum Exceedance {
     Run(u64),
     Endless,
@@ -61,7 +61,7 @@ pub fn smaller(a: u64, b: u64) -> u64
 }
 
 // What a pass over the anchors gathers; the area is doubled.
-#[derive(Drop)]
+#[derive(Clone, Copy)]
 struct Gathered {
     greatest: u64,
     low: u64,
@@ -175,7 +175,7 @@ pub fn throughput_of(starts: &[u64], latencies: &[u64], g: usize, h: u64) -> Thr
 }
 
 // A scan of successive ticks: the run above a bound that ends here, and the longest so far.
-#[derive(Drop)]
+#[derive(Clone, Copy)]
 struct Scan {
     run: u64,
     best: u64,

@@ -9,7 +9,7 @@ use schedule::{NumberedTask, Route, Schedule};
 use task::Task;
 
 // What one record is: a task, a chain of so many places, the gap, the end, or the number of its fault.
-#[derive(Drop)]
+#[derive(Clone, Copy)]
 pub enum Record {
     Task(NumberedTask),
     Chain(usize),
@@ -19,7 +19,7 @@ pub enum Record {
 }
 
 // A schedule that was read. The refusal is number 0 at place 0 in a success; in a refusal the schedule is zeros.
-#[derive(Drop)]
+#[derive(Clone, Copy)]
 pub struct FileRead {
     pub refusal: Refusal,
     pub schedule: Schedule,

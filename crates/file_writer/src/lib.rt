@@ -12,7 +12,7 @@ use refusal::Refusal;
 use schedule::{NumberedTask, Route, Schedule};
 
 // The length of the file that was written, or the refusal.
-#[derive(Drop)]
+#[derive(Clone, Copy)]
 pub enum Written {
     Bytes(usize),
     Refused(Refusal),

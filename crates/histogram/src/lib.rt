@@ -22,7 +22,7 @@ const WIDTH_ZERO: u64 = 18;
 const WIDEST: u64 = 60011001;
 
 // The ticks with a delay beyond the list, or the refusal.
-#[derive(Drop)]
+#[derive(Clone, Copy)]
 pub enum Histogram {
     Rest(u64),
     Refused(Refusal),

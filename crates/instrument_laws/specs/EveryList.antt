@@ -1,36 +1,36 @@
--- Order 10 of document 02 in the customer's words, with the two parties of order 11, of the calls themselves. "For every list of asks and commits from a state so made, the running one is that of the last commit not refused, or the
--- first" (`running_made`, from any state `running_last`), "and meets its own bounds" (`running_meets`, `running_delay`); reads may stand anywhere in the list. "needs two steps": a commit that is not refused names what the firmware
--- asked for last (`two_steps`); "Each has a proposal of its own": what each proposes is what it asked for last, where no commit followed (`proposal_last`). Making "refuses what an ask would refuse" (`make_as_ask`), "then handing back
--- a state of zeros" (`refused_zeros`). What stands past a count is never seen again (`past_unseen`, `zeros_past`). What holds of one call alone is in OneCall.
-use Rattle.std.specs.Prelude.{ℕ, zero, suc, ◌≤◌, ◌<◌, ◌≡◌, Bool, true, false, cond, eqb, length, get_or}
+-- Order 10 of document 02 in the customer's words, of the calls themselves. "For every list of asks and commits from a state so made, the running one is that of the last commit not refused, or the first" (`running_made`,
+-- from any state `running_last`), "and meets its own bounds" (`running_meets`, `running_delay`). "needs two steps": a commit that is not refused names what was asked for last (`two_steps`). "A refused call alters neither."
+-- (`refused_same`). Making "refuses what an ask would refuse" (`make_as_ask`), "then handing back a state of zeros" (`refused_zeros`). What stands past a count is never seen again (`past_unseen`, `zeros_past`).
+use Rattle.std.specs.Prelude.{ℕ, zero, suc, ◌≤◌, ◌<◌, ◌≡◌, ◌↔◌, Bool, true, false, cond, List, [], ◌∷◌, map, eqb, length, get_or}
 use Rattle.std.proofs.Common.{arith, ◌∙◌}
 use Rattle.std.proofs.Math.Path.{refl, sym, ap, subst}
-use mathlib.Core.List.{List, [], ◌∷◌}
-use borrow.Author.Tests.{eq-eqb, ne_eqb, eqb-true}
+use borrow.Author.Tests.{eq-eqb, ne_eqb, eqb-false}
+use Rattle.refusal.specs.declared.Refusal.{Refusal}
+use Rattle.refusal.specs.Refusals.{refusal, none}
 use Rattle.chain.specs.Chains.{tasks_of}
 use Rattle.schedule.specs.Schedules.{chain_at, padded, no_route}
 use Rattle.timing.specs.WarmUp.{warm_tick}
 use Rattle.timing.specs.Delay.{delay_at}
 use Rattle.bounded.specs.declared.Bounded.{Bounded}
-use Rattle.bounded.specs.Bounded.{cleared, zero_bounded}
-use Rattle.bounded.specs.Cleared.{BoundedArrays, cleared_twice, cleared_lengths, Agree, agree_cleared}
+use Rattle.bounded.specs.Bounded.{cleared, zero_bounded, same_bounded}
+use Rattle.bounded.specs.Cleared.{BoundedArrays, cleared_twice, cleared_lengths, Agree, agree_cleared, agree_exactly}
+use Rattle.bounded.specs.Same.{same_exactly}
 use Rattle.promises.specs.Promises.{judged_of}
 use Rattle.promises.specs.EveryChain.{MeetsBounds, meets_exactly, meets_delay, bound_of}
-use Rattle.instrument.specs.declared.Side.{Side}
 use Rattle.instrument.specs.declared.State.{State}
-use Rattle.instrument.specs.Instrument.{fine, is_party, no_proposal, proposal, proposes, runs, zero_state, view_of, passes, make_of, ask_answer, ask_of, proposal_refusal, commit_answer, commit_of}
-use Rattle.instrument_laws.specs.Machine.{run, All, run_keeps, run_keeps_of, last_or, choice}
-use Rattle.instrument_laws.specs.Calls.{Call, read, ask, commit, caller, named, same_caller, Answer, answer_of, refusal_of, state_after, answer_to, answer_by_view, after_all, answers_of, commits_of, Proposal, nothing, standing, proposal_of, asked_of}
-use Rattle.instrument_laws.specs.OneCall.{known_ask, ask_passes, commit_looks, read_same, commit_runs, ask_running, ask_mine, names_proposal, Tidy}
-use Rattle.instrument_laws.specs.Views.{commit_shows, refused_commit}
+use Rattle.instrument.specs.Instrument.{runs, zero_state, passes, make_of, ask_of, commit_refusal, commit_of}
+use Rattle.instrument_laws.specs.Machine.{run, All, run_keeps_of, run_view, last_or, choice}
+use Rattle.instrument_laws.specs.Order10 as machine
+use Rattle.instrument_laws.specs.Order10.{Proposal, nothing, standing, fine, refused_for, next}
+use Rattle.instrument_laws.specs.Calls.{Call, ask, commit, refusal_of, state_after, Answer, answer_of, after_all, answers_of, commits_of, asked_of, askable, proposal_of, view, call_of, call_refusal, call_state}
 
 -- ---- making a state
 
 module _ (b : Bounded) where
-  -- Making refuses exactly what an ask of either party refuses, with the same number and place, whatever the state is.
-  pub make_as_ask : (s : State) (party : ℕ) → is_party party ≡ true → (make_of (cleared b)).refusal ≡ (ask_of s party (cleared b)).refusal
+  -- Making refuses exactly what an ask refuses, with the same number and place, whatever the state is.
+  pub make_as_ask : (s : State) → (make_of (cleared b)).refusal ≡ (ask_of s (cleared b)).refusal
   unfolding make_of ask_of
-  make_as_ask s party h = rw (known_ask party h (cleared b))
+  make_as_ask s = refl
 
   pub refused_zeros : ((make_of (cleared b)).refusal.number ≡ 0 → ⊥) → (make_of (cleared b)).state ≡ zero_state
   unfolding make_of
@@ -41,67 +41,70 @@ module _ (b : Bounded) where
   unfolding make_of
   made_runs h = rw (eq-eqb (judged_of (cleared b)).refusal.number 0 h)
 
--- ---- what runs
+-- ---- one call
+
+pub refused_same : (s : State) (c : Call) → ((refusal_of s c).number ≡ 0 → ⊥) → state_after s c ≡ s
+unfolding refusal_of state_after ask_of commit_of
+refused_same s (ask b) h = rw (ne_eqb (judged_of (cleared b)).refusal.number 0 h)
+refused_same s (commit b) h = rw (ne_eqb (commit_refusal s (cleared b)).number 0 h)
+
+-- A commit that is not refused makes what it names run, and no proposal stands.
+pub commit_runs : (s : State) (b : Bounded) → (refusal_of s (commit b)).number ≡ 0 → state_after s (commit b) ≡ runs (cleared b)
+unfolding refusal_of state_after commit_of
+commit_runs s b h = rw (eq-eqb (commit_refusal s (cleared b)).number 0 h)
+
+-- An ask that is not refused can be committed at once.
+pub ask_commit : (s : State) (b : Bounded) → (refusal_of s (ask b)).number ≡ 0 → refusal_of (state_after s (ask b)) (commit b) ≡ none
+ask_commit s b h =
+    sym (call_refusal (state_after s (ask b)) (commit b)) ∙ ap (λ (v : machine.State Bounded). refused_for askable v (call_of (commit b))) (call_state s (ask b))
+    ∙ machine.ask_commit askable (view s) (cleared b) (ap fine (call_refusal s (ask b)) ∙ eq-eqb (refusal_of s (ask b)).number 0 h)
+
+-- ---- what runs, and what is proposed
+
+-- the state after a list, as the machine's
+seen : (s : State) (l : List Call) → view (after_all s l) ≡ run (next askable) (view s) (map call_of l)
+seen s l = run_view state_after (next askable) view call_of call_state s l
+
+-- the commits that are not refused are those of the machine
+commits_are : (s : State) (l : List Call) → machine.commits askable (view s) (map call_of l) ≡ commits_of s l
+unfolding machine.commits commits_of
+commits_are s [] = refl
+commits_are s (ask b ∷ l) = ap (λ (v : machine.State Bounded). machine.commits askable v (map call_of l)) (sym (call_state s (ask b))) ∙ commits_are (state_after s (ask b)) l
+commits_are s (commit b ∷ l) =
+    ap (λ (r : Refusal). choose (fine r) (machine.commits askable (next askable (view s) (call_of (commit b))) (map call_of l))) (call_refusal s (commit b))
+    ∙ ap (choose (fine (refusal_of s (commit b)))) (ap (λ (v : machine.State Bounded). machine.commits askable v (map call_of l)) (sym (call_state s (commit b))) ∙ commits_are (state_after s (commit b)) l)
+  where
+    choose : Bool → List Bounded → List Bounded
+    choose t r = cond t (cleared b ∷ r) r
 
 -- From any state what runs is what the last commit not refused names, or what ran at first.
 pub running_last : (s : State) (l : List Call) → (after_all s l).running ≡ last_or s.running (commits_of s l)
-unfolding run commits_of last_or
-running_last s [] = refl
-running_last s (read party n starts latencies ∷ l) = ap (λ (t : State). (after_all t l).running) (read_same s party n starts latencies) ∙ running_last s l
-running_last s (ask party b ∷ l) = running_last (state_after s (ask party b)) l ∙ ap (λ (x : Bounded). last_or x (commits_of (state_after s (ask party b)) l)) (ask_running s party b)
-running_last s (commit party b ∷ l) = go (fine (refusal_of s (commit party b))) refl (running_last (state_after s (commit party b)) l)
+running_last s l = ap (λ (v : machine.State Bounded). v.running) (seen s l) ∙ machine.running_last askable (view s) (map call_of l) ∙ ap (last_or s.running) (commits_are s l)
+
+-- what a call leaves proposed
+call_proposal : (s : State) (c : Call) → proposal_of (state_after s c).firmware ≡ cond (fine (refusal_of s c)) (machine.after askable (view s) (call_of c)).proposal (proposal_of s.firmware)
+unfolding next
+call_proposal s c = ap (λ (v : machine.State Bounded). v.proposal) (call_state s c) ∙ ap (λ (r : Refusal). (cond (fine r) (machine.after askable (view s) (call_of c)) (view s)).proposal) (call_refusal s c) ∙ go (fine (refusal_of s c))
   where
-    t : State
-    t = state_after s (commit party b)
+    go : (b : Bool) → (cond b (machine.after askable (view s) (call_of c)) (view s)).proposal ≡ cond b (machine.after askable (view s) (call_of c)).proposal (proposal_of s.firmware)
+    go true = refl
+    go false = refl
 
-    go : (x : Bool) → fine (refusal_of s (commit party b)) ≡ x → (after_all t l).running ≡ last_or t.running (commits_of t l)
-        → (after_all t l).running ≡ last_or s.running (cond x (cleared b ∷ commits_of t l) (commits_of t l))
-    go true e k = k ∙ ap (λ (u : State). last_or u.running (commits_of t l)) (commit_runs s party b (eqb-true (refusal_of s (commit party b)).number 0 e))
-    go false e k = k ∙ ap (λ (u : State). last_or u.running (commits_of t l)) (refused_commit s party b e)
-
--- ---- what is proposed
-
-module _ (party : ℕ) (known : is_party party ≡ true) where
-  abbrev proposed : State → Proposal
-  proposed s = proposal_of (view_of s party).mine
-
-  ask_proposes : (s : State) (p : ℕ) (b : Bounded)
-      → proposed (state_after s (ask p b)) ≡ cond (eqb p party) (cond (fine (refusal_of s (ask p b))) (standing (cleared b)) (proposed s)) (proposed s)
-  ask_proposes s p b = ap proposal_of (ask_mine s b party known p) ∙ go (eqb p party) (fine (refusal_of s (ask p b)))
-    where
-      go : (x y : Bool) → proposal_of (cond x (cond y (proposal (cleared b)) (view_of s party).mine) (view_of s party).mine) ≡ cond x (cond y (standing (cleared b)) (proposed s)) (proposed s)
-      go true true = refl
-      go true false = refl
-      go false y = refl
-
-  commit_proposes : (s : State) (p : ℕ) (b : Bounded) → proposed (state_after s (commit p b)) ≡ cond (fine (refusal_of s (commit p b))) nothing (proposed s)
-  commit_proposes s p b = go (fine (refusal_of s (commit p b))) refl
-    where
-      go : (x : Bool) → fine (refusal_of s (commit p b)) ≡ x → proposed (state_after s (commit p b)) ≡ cond x nothing (proposed s)
-      go true e = ap (λ (v : _). proposal_of v.mine) (commit_shows s p b party known e)
-      go false e = ap proposed (refused_commit s p b e)
-
-  -- What a party proposes is what its last ask not refused names, where no commit that was not refused follows it.
-  pub proposal_last : (s : State) (l : List Call) → proposed (after_all s l) ≡ asked_of party (proposed s) s l
-  unfolding run asked_of
-  proposal_last s [] = refl
-  proposal_last s (read p n starts latencies ∷ l) = ap (λ (t : State). proposed (after_all t l)) (read_same s p n starts latencies) ∙ proposal_last s l
-  proposal_last s (ask p b ∷ l) = proposal_last (state_after s (ask p b)) l ∙ ap (λ (q : Proposal). asked_of party q (state_after s (ask p b)) l) (ask_proposes s p b)
-  proposal_last s (commit p b ∷ l) = proposal_last (state_after s (commit p b)) l ∙ ap (λ (q : Proposal). asked_of party q (state_after s (commit p b)) l) (commit_proposes s p b)
+-- What is proposed is what the last ask not refused names, where no commit that was not refused follows it.
+pub proposal_last : (s : State) (l : List Call) → proposal_of (after_all s l).firmware ≡ asked_of (proposal_of s.firmware) s l
+unfolding run asked_of
+proposal_last s [] = refl
+proposal_last s (ask b ∷ l) = proposal_last (state_after s (ask b)) l ∙ ap (λ (q : Proposal Bounded). asked_of q (state_after s (ask b)) l) (call_proposal s (ask b))
+proposal_last s (commit b ∷ l) = proposal_last (state_after s (commit b)) l ∙ ap (λ (q : Proposal Bounded). asked_of q (state_after s (commit b)) l) (call_proposal s (commit b))
 
 -- ---- entries past the counts
 
--- Two calls of one kind and one party: reads of one chain with the same lists, or what they name agrees in all that counts.
+-- Two calls of one kind that name what agrees in all that counts.
 pub AgreeCall : Call → Call → Type 0
-AgreeCall (read p n x y) (read q m z w) = read p n x y ≡ read q m z w
-AgreeCall (ask p a) (ask q b) = (p ≡ q) × Agree a b
-AgreeCall (commit p a) (commit q b) = (p ≡ q) × Agree a b
-AgreeCall (read p n x y) (ask q b) = ⊥
-AgreeCall (read p n x y) (commit q b) = ⊥
-AgreeCall (ask p a) (read q m z w) = ⊥
-AgreeCall (ask p a) (commit q b) = ⊥
-AgreeCall (commit p a) (read q m z w) = ⊥
-AgreeCall (commit p a) (ask q b) = ⊥
+AgreeCall (ask a) (ask b) = Agree a b
+AgreeCall (ask a) (commit b) = ⊥
+AgreeCall (commit a) (ask b) = ⊥
+AgreeCall (commit a) (commit b) = Agree a b
 
 pub AgreeAll : List Call → List Call → Type 0
 AgreeAll [] [] = Unit
@@ -109,38 +112,16 @@ AgreeAll [] (d ∷ k) = ⊥
 AgreeAll (c ∷ l) [] = ⊥
 AgreeAll (c ∷ l) (d ∷ k) = (AgreeCall c d) × (AgreeAll l k)
 
--- they are taken as one call,
-agree_named : (c d : Call) → AgreeCall c d → named c ≡ named d
-unfolding AgreeCall
-agree_named (read p n x y) (read q m z w) e = e
-agree_named (ask p a) (ask q b) e = ap (λ (r : ℕ). ask r (cleared a)) e.0 ∙ ap (ask q) (agree_cleared a b e.1)
-agree_named (commit p a) (commit q b) e = ap (λ (r : ℕ). commit r (cleared a)) e.0 ∙ ap (commit q) (agree_cleared a b e.1)
-agree_named (read p n x y) (ask q b) e = absurd e
-agree_named (read p n x y) (commit q b) e = absurd e
-agree_named (ask p a) (read q m z w) e = absurd e
-agree_named (ask p a) (commit q b) e = absurd e
-agree_named (commit p a) (read q m z w) e = absurd e
-agree_named (commit p a) (ask q b) e = absurd e
-
--- and what a call answers and leaves is said of it as it is taken
-state_named : State → Call → State
-state_named s (read p n x y) = s
-state_named s (ask p b) = (ask_of s p b).state
-state_named s (commit p b) = (commit_of s p b).state
-
-after_named : (s : State) (c : Call) → state_after s c ≡ state_named s (named c)
-unfolding state_after state_named
-after_named s (read p n x y) = refl
-after_named s (ask p b) = refl
-after_named s (commit p b) = refl
-
 agree_call : (s : State) (c d : Call) → AgreeCall c d → (answer_of s c ≡ answer_of s d) × (state_after s c ≡ state_after s d)
-agree_call s c d e =
-    let w = agree_named c d e in (
-      answer_by_view s c ∙ ap (λ (p : ℕ). answer_to (view_of s p) (named c)) (sym (same_caller c))
-          ∙ ap (λ (x : Call). answer_to (view_of s (caller x)) x) w ∙ ap (λ (p : ℕ). answer_to (view_of s p) (named d)) (same_caller d) ∙ sym (answer_by_view s d),
-      after_named s c ∙ ap (state_named s) w ∙ sym (after_named s d),
-    )
+unfolding AgreeCall answer_of state_after
+agree_call s (ask a) (ask b) e =
+    let w = agree_cleared a b e in
+    (ap (λ (p : Bounded). record { refusal = (ask_of s p).refusal; latencies = (ask_of s p).latencies }) w, ap (λ (p : Bounded). (ask_of s p).state) w)
+agree_call s (ask a) (commit b) e = absurd e
+agree_call s (commit a) (ask b) e = absurd e
+agree_call s (commit a) (commit b) e =
+    let w = agree_cleared a b e in
+    (ap (λ (p : Bounded). record { refusal = (commit_of s p).refusal; latencies = [] }) w, ap (λ (p : Bounded). (commit_of s p).state) w)
 
 -- Two lists of calls that agree so, and may differ in every entry past a count, are answered alike and leave the same state.
 pub past_unseen : (s : State) (l k : List Call) → AgreeAll l k → (answers_of s l ≡ answers_of s k) × (after_all s l ≡ after_all s k)
@@ -157,15 +138,15 @@ past_unseen s (c ∷ l) (d ∷ k) e =
 
 -- ---- from a made state
 
--- What a call names, if it names something, has a property.
-abbrev pub Names : (Bounded → Type 0) → Call → Type 0
-Names G (read p n x y) = Unit
-Names G (ask p b) = G b
-Names G (commit p b) = G b
-
 -- The arrays of what a call names have their lengths, as every value of the type has.
 abbrev pub Given : Call → Type 0
-Given = Names BoundedArrays
+Given (ask b) = BoundedArrays b
+Given (commit b) = BoundedArrays b
+
+-- zeros past the counts, and lengths
+pub record Tidy (b : Bounded) : Type 0 where
+  pub zeros : cleared b ≡ b
+  pub lengths : BoundedArrays b
 
 tidy : (b : Bounded) → BoundedArrays b → Tidy (cleared b)
 tidy b a = record { zeros = cleared_twice b a; lengths = cleared_lengths b a }
@@ -181,37 +162,32 @@ zero_tidy : Tidy zero_bounded
 unfolding padded
 zero_tidy = record { zeros = refl; lengths = record { schedule = record { tasks = refl; routes = refl; places = zero_places }; bounds = refl } }
 
--- What runs has one property, and each party's side another.
-pub record Everywhere (P : Bounded → Type 0) (Q : Side → Type 0) (s : State) : Type 0 where
-  pub running : P s.running
-  pub firmware : Q s.firmware
-  pub tablet : Q s.tablet
+pub record TidyState (s : State) : Type 0 where
+  pub running : Tidy s.running
+  pub proposal : Tidy s.firmware.proposal
 
--- It stays so if a side without a proposal has it, what passes an ask has it as a proposal, and what names the firmware's proposal has it running.
-module _ (G P : Bounded → Type 0) (Q : Side → Type 0) (none_has : Q no_proposal) (asked-has : (b : Bounded) → G b → passes (cleared b) ≡ true → Q (proposal (cleared b)))
-    (named-has : (b : Bounded) → G b → (d : Side) → Q d → fine (proposal_refusal d (cleared b)) ≡ true → P (cleared b)) where
-  everywhere_next : (s : State) (c : Call) → Names G c → Everywhere P Q s → Everywhere P Q (state_after s c)
-  unfolding state_after ask_of proposes commit_of
-  everywhere_next s (read p n x y) g h = h
-  everywhere_next s (ask p b) g h =
-      choice (Everywhere P Q) (fine (ask_answer p (cleared b)).refusal) _ _
-      (λ u. let new = asked-has b g (ask_passes p (cleared b) u).1 in
-      choice (Everywhere P Q) (eqb p 1) _ _ (λ e. record { running = h.running; firmware = new; tablet = h.tablet }) (λ e. record { running = h.running; firmware = h.firmware; tablet = new }))
-      (λ u. h)
-  everywhere_next s (commit p b) g h =
-      choice (Everywhere P Q) (fine (commit_answer (view_of s p) p (cleared b))) _ _
-      (λ u. record { running = named-has b g s.firmware h.firmware (commit_looks s p (cleared b) u); firmware = none_has; tablet = none_has }) (λ u. h)
+tidy_next : (s : State) (c : Call) → Given c → TidyState s → TidyState (state_after s c)
+unfolding state_after ask_of commit_of
+tidy_next s (ask b) a h = choice TidyState (passes (cleared b)) _ _ (λ u. record { running = h.running; proposal = tidy b a }) (λ u. h)
+tidy_next s (commit b) a h = choice TidyState (fine (commit_refusal s (cleared b))) _ _ (λ u. record { running = tidy b a; proposal = zero_tidy }) (λ u. h)
 
--- Nothing is refused of a schedule with bounds, nor of what is proposed, where something is.
-abbrev pub Passes : Bounded → Type 0
-Passes b = (judged_of b).refusal.number ≡ 0
+-- "23 if schedule or bounds differ from it": where zeros stand past the counts of the proposal, a commit is not refused exactly where a proposal stands and what is named agrees with it in all that counts.
+pub commit_exactly : (s : State) (b : Bounded) → Tidy s.firmware.proposal → BoundedArrays b
+    → ((refusal_of s (commit b)).number ≡ 0) ↔ ((s.firmware.stands ≡ 0 → ⊥) × Agree b s.firmware.proposal)
+unfolding refusal_of commit_of commit_refusal
+commit_exactly s b t a = (
+  go (eqb s.firmware.stands 0) refl (same_bounded (cleared b) p) refl,
+  λ w. let e : same_bounded (cleared b) p ≡ true = (same_exactly (cleared b) p).1 ((agree_exactly b p a t.lengths).0 w.1 ∙ t.zeros) in rw (ne_eqb s.firmware.stands 0 w.0, e),
+)
+  where
+    p : Bounded
+    p = s.firmware.proposal
 
-pub PassedProposal : Proposal → Type 0
-PassedProposal nothing = Unit
-PassedProposal (standing b) = Passes b
-
-abbrev pub ProposesPassed : Side → Type 0
-ProposesPassed d = PassedProposal (proposal_of d)
+    go : (x : Bool) → eqb s.firmware.stands 0 ≡ x → (y : Bool) → same_bounded (cleared b) p ≡ y → (cond x (refusal 22 0) (cond y none (refusal 23 0))).number ≡ 0
+        → (s.firmware.stands ≡ 0 → ⊥) × Agree b p
+    go true e y f h = absurd (omega arith)
+    go false e true f h = (eqb-false s.firmware.stands 0 e, (agree_exactly b p a t.lengths).1 ((same_exactly (cleared b) p).0 f ∙ sym t.zeros))
+    go false e false f h = absurd (omega arith)
 
 module _ (b : Bounded) (made : (make_of (cleared b)).refusal.number ≡ 0) (l : List Call) where
   abbrev first : State
@@ -221,40 +197,31 @@ module _ (b : Bounded) (made : (make_of (cleared b)).refusal.number ≡ 0) (l : 
   pub running_made : (after_all first l).running ≡ last_or (cleared b) (commits_of first l)
   running_made = running_last first l ∙ ap (λ (s : State). last_or s.running (commits_of first l)) (made_runs b made)
 
-  -- "two steps": a commit that is not refused names what the firmware's last ask not refused named, and no commit that was not refused came between.
-  pub two_steps : (party : ℕ) (c : Bounded) → (refusal_of (after_all first l) (commit party c)).number ≡ 0 → asked_of 1 nothing first l ≡ standing (cleared c)
-  unfolding answer_of commit_of view_of is_party
-  two_steps party c h =
-      ap (λ (s : State). asked_of 1 (proposal_of s.firmware) first l) (sym (made_runs b made)) ∙ sym (proposal_last 1 refl first l)
-      ∙ names_proposal (after_all first l).firmware (cleared c) (commit_looks (after_all first l) party (cleared c) (eq-eqb (refusal_of (after_all first l) (commit party c)).number 0 h))
+  -- "two steps": a commit that is not refused names what the last ask not refused named, and no commit that was not refused came between.
+  pub two_steps : (c : Bounded) → (refusal_of (after_all first l) (commit c)).number ≡ 0 → asked_of nothing first l ≡ standing (cleared c)
+  unfolding machine.refused_for
+  two_steps c h =
+      ap (λ (s : State). asked_of (proposal_of s.firmware) first l) (sym (made_runs b made)) ∙ sym (proposal_last first l)
+      ∙ machine.names_proposal askable (proposal_of (after_all first l).firmware) (cleared c) (ap fine (call_refusal (after_all first l) (commit c)) ∙ eq-eqb (refusal_of (after_all first l) (commit c)).number 0 h)
 
-  passed : Everywhere Passes ProposesPassed (after_all first l)
-  unfolding PassedProposal make_of
-  passed =
-      run_keeps state_after (Everywhere Passes ProposesPassed)
-      (λ s c h. everywhere_next (λ x. Unit) Passes ProposesPassed tt (λ x g u. eqb-true (judged_of (cleared x)).refusal.number 0 u) (λ x g d q u. subst PassedProposal (names_proposal d (cleared x) u) q) s c (any c) h) first l
-      (subst (Everywhere Passes ProposesPassed) (sym (made_runs b made)) (record { running = made; firmware = tt; tablet = tt }))
-    where
-      any : (c : Call) → Names (λ x. Unit) c
-      any (read p n x y) = tt
-      any (ask p x) = tt
-      any (commit p x) = tt
+  -- the state after the list, as the machine's from what was made
+  after_made : view (after_all first l) ≡ run (next askable) (record { running = cleared b; proposal = nothing }) (map call_of l)
+  after_made = ap (λ (s : State). view (after_all s l)) (made_runs b made) ∙ seen (runs (cleared b)) l
 
   -- What runs passes an ask,
-  pub running_passed : Passes (after_all first l).running
-  running_passed = passed.running
+  pub running_passed : (judged_of (after_all first l).running).refusal.number ≡ 0
+  unfolding make_of
+  running_passed = subst (λ (v : machine.State Bounded). (judged_of v.running).refusal.number ≡ 0) (sym after_made) (machine.running_passed askable (cleared b) made (map call_of l))
 
-  -- and so does what each party proposes.
-  pub proposal_passed : (ProposesPassed (after_all first l).firmware) × (ProposesPassed (after_all first l).tablet)
-  proposal_passed = (passed.firmware, passed.tablet)
+  -- and so does what is proposed.
+  pub proposal_passed : machine.PassedProposal askable (proposal_of (after_all first l).firmware)
+  unfolding make_of
+  proposal_passed = subst (λ (v : machine.State Bounded). machine.PassedProposal askable v.proposal) (sym after_made) (machine.proposal_passed askable (cleared b) made (map call_of l))
 
   module _ (a : BoundedArrays b) (given : All Given l) where
     -- No entry past a count is anything but 0, in what runs and in what is proposed.
-    pub zeros_past : Everywhere Tidy (λ d. Tidy d.proposal) (after_all first l)
-    zeros_past =
-        run_keeps_of state_after Given (Everywhere Tidy (λ d. Tidy d.proposal))
-        (everywhere_next BoundedArrays Tidy (λ d. Tidy d.proposal) zero_tidy (λ x g h. tidy x g) (λ x g d q h. tidy x g)) first l given
-        (subst (Everywhere Tidy (λ d. Tidy d.proposal)) (sym (made_runs b made)) (record { running = tidy b a; firmware = zero_tidy; tablet = zero_tidy }))
+    pub zeros_past : TidyState (after_all first l)
+    zeros_past = run_keeps_of state_after Given TidyState tidy_next first l given (subst TidyState (sym (made_runs b made)) (record { running = tidy b a; proposal = zero_tidy }))
 
     -- "meets its own bounds": it passes every check, and no chain's greatest latency is above its bound,
     pub running_meets : MeetsBounds (after_all first l).running

@@ -1,7 +1,4 @@
 pub mod Machine
+pub mod Order10
 pub mod Calls
-pub mod OneCall
-pub mod Views
-pub mod TwoParties
 pub mod EveryList
-pub mod EveryRead

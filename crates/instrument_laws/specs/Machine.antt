@@ -1,6 +1,7 @@
 -- A machine that takes calls one after another: the state that a list of calls leaves, and what every list keeps because every call does.
 use Rattle.std.specs.Prelude.{◌≡◌, refl, Bool, true, false, cond}
-use mathlib.Core.List.{List, [], ◌∷◌}
+use Rattle.std.proofs.Common.{ap, ◌∙◌}
+use mathlib.Core.List.{List, [], ◌∷◌, map}
 
 -- Each of a list has a property.
 unfoldable pub All : {C : Type 0} → (C → Type 0) → List C → Type 0
@@ -24,6 +25,13 @@ module _ {S C : Type 0} (next : S → C → S) where
   unfolding run All
   run_keeps_of Q P step s [] q h = h
   run_keeps_of Q P step s (c ∷ l) q h = run_keeps_of Q P step (next s c) l q.1 (step s c q.0 h)
+
+-- Where one machine's calls are another's, seen through a view of its states, so are its lists.
+pub run_view : {S C T D : Type 0} (next : S → C → S) (step : T → D → T) (view : S → T) (call : C → D) → ((s : S) (c : C) → view (next s c) ≡ step (view s) (call c))
+    → (s : S) (l : List C) → view (run next s l) ≡ run step (view s) (map call l)
+unfolding run
+run_view next step view call e s [] = refl
+run_view next step view call e s (c ∷ l) = run_view next step view call e (next s c) l ∙ ap (λ (t : _). run step t (map call l)) (e s c)
 
 -- The last of a list, or a first one.
 unfoldable pub last_or : {A : Type 0} → A → List A → A

@@ -1,1 +1,1 @@
-// Theorems alone, in specs/: what holds over every list of reads, asks and commits of two parties, and of every read after it.
+// Theorems alone, in specs/: what holds over every list of asks and commits from a made state.

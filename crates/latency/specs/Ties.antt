@@ -1,11 +1,9 @@
 -- Which of several places with the longest period a chain is cut at cannot be seen: of places with equal periods making in two lists of equal length answers the same and writes the same anchors (`tie_made`, `tie_written`).
--- Nor can any place be seen where the chain itself is refused (`makes_there`).
 use Rattle.std.specs.Prelude.{ℕ, ◌-◌, ◌/◌, ◌≤◌, ◌<◌, ◌≡◌, cond, leb, length}
 use Rattle.std.proofs.Common.{arith, ◌∙◌}
 use Rattle.std.proofs.Math.Path.{refl, sym, ap}
 use mathlib.Core.List.{List}
 use borrow.Author.Tests.{le-leb, eq-eqb}
-use Rattle.refusal.specs.declared.Refusal.{Refusal}
 use Rattle.chain.specs.declared.Chain.{Chain}
 use Rattle.chain.specs.declared.Verdict.{Verdict}
 use Rattle.chain.specs.declared.Verdict.TheVariants as verdict
@@ -21,26 +19,7 @@ use Rattle.partition.specs.CutFree.{cut_canonical}
 use Rattle.maker.specs.declared.Figures.{Figures}
 use Rattle.maker.specs.declared.Made.{Made}
 use Rattle.maker.specs.declared.Made.TheVariants.{Whole, Short}
-use Rattle.maker.specs.Making.{after_checks, judged, figures_of, made_after, made_of, written_after, written_of, starts_of, latencies_of, overlay, told_after, Makes}
-
--- What is refused for 8, 5 or 7 does not look at the place: two places that are one where the chain is accepted are the same to making.
-module _ (c : Chain) (p q : ℕ) (same : (h : ℕ) → verdict_of c ≡ verdict.Accepted h → p ≡ q) where
-  there : {A : Type 0} (a b : ℕ) (f : ℕ → Verdict → A) → ((r : Refusal) → f p (verdict.Refused r) ≡ f q (verdict.Refused r)) → f p (judged c p a b) ≡ f q (judged c q a b)
-  unfolding judged
-  there a b f refused = go (verdict_of c) refl
-    where
-      go : (x : Verdict) → verdict_of c ≡ x → f p (after_checks x c.places p a b) ≡ f q (after_checks x c.places q a b)
-      go (verdict.Refused r) e = refused r
-      go (verdict.Accepted h) e = ap (λ (k : ℕ). f k (after_checks (verdict.Accepted h) c.places k a b)) (same h e)
-
-  pub makes_there : (s v s' v' : List ℕ) (r : Made) → Makes c p s v s' v' r → Makes c q s v s' v' r
-  unfolding made_after told_after written_after
-  makes_there s v s' v' r k = record {
-    answer = k.answer ∙ there (length s) (length v) (λ x. made_after c x (length s)) (λ r. refl);
-    tells = k.tells ∙ there (length s) (length v) (λ x. told_after c x (length s)) (λ r. refl);
-    leaves_starts = k.leaves_starts ∙ ap (λ (l : List Anchor). overlay (starts_of l) s) (there (length s) (length v) (written_after c) (λ r. refl));
-    leaves_latencies = k.leaves_latencies ∙ ap (λ (l : List Anchor). overlay (latencies_of l) v) (there (length s) (length v) (written_after c) (λ r. refl));
-  }
+use Rattle.maker.specs.Making.{after_checks, judged, figures_of, made_after, made_of, written_after, written_of}
 
 module _ (c : Chain) (twelve : length c.tasks ≡ 12) (slots : ℕ) where
   -- a place inside is not refused for itself

@@ -1,25 +1,21 @@
-// The greatest latency of a chain without a table: one walk over the partitions of a hyperperiod, with no list. And the place at which that walk is least work, also for a table.
-// All functions are for the crates above. `longest_place` takes any list of up to twelve tasks and counts places from 1, as document 01 does; `make_at_longest` takes any chain; the others take lists that the checks accepted and
-// count the place p from 0.
+// The greatest latency of a chain without a table: one walk over the partitions of a hyperperiod, with no list. And the place at which that walk is least work.
+// All functions are for the crates above. `longest_place` takes any list of up to twelve tasks and counts places from 1, as document 01 does; the others take lists that the checks accepted and count
+// the place p from 0.
 ghost use Rattle.std.specs.Prelude.{◌≡◌, length, ◌-◌, ◌≤◌, ◌<◌, max};
-ghost use Rattle.chain.specs.Chains.{tasks_of};
 ghost use Rattle.chain.specs.Checks.{Sound};
 ghost use Rattle.chain.specs.Hyperperiod.{hyper_of};
 ghost use Rattle.chain.specs.Flat.{tasks_in};
 ghost use Rattle.stepping.specs.Standing.{Reciprocals};
 ghost use Rattle.outset.specs.Range.{Range};
-ghost use Rattle.maker.specs.Making.{Makes};
 ghost use Rattle.latency.specs.LongestPlace.{longest_place};
 ghost use Rattle.latency.specs.Latency.{AcceptedAt, greatest_latency, greatest_at};
 ghost use Rattle.latency.specs.Walk.{Begins, Met, MetAll, RangeFrom, MetFrom};
 
-use chain::Chain;
-use maker::Made;
 use partition::Partition;
 use task::{Job, Place, Tick};
 
 // The greatest latency, and the number of partitions that were walked for it.
-#[derive(Drop)]
+#[derive(Clone, Copy)]
 pub struct Greatest {
     pub latency: u64,
     pub walked: u64,
@@ -43,16 +39,6 @@ pub fn longest_place(tasks: &[u64], gap: u64) -> usize
         }
     }
     place
-}
-
-// The table of a chain, cut at the place of the longest period.
-pub fn make_at_longest(c: Chain, starts: &mut [u64], latencies: &mut [u64]) -> Made
-    ensures { Makes c (longest_place (tasks_of c)) starts.old latencies.old starts.new latencies.new result }
-{
-    let tasks = chain::flat(c);
-    let n = chain::flat_length(c.places);
-    let p = longest_place(&tasks[..n], c.gap);
-    maker::make_table_on(&tasks[..n], c.gap, p, starts, latencies)
 }
 
 // The larger one of two numbers.

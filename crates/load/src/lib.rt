@@ -8,21 +8,21 @@ use refusal::Refusal;
 use task::Task;
 
 // A draw: the state s after it, and the number that it gives.
-#[derive(Drop)]
+#[derive(Clone, Copy)]
 pub struct Draw {
     pub state: u64,
     pub value: u64,
 }
 
 // The task at a place, and the state s after its two draws.
-#[derive(Drop)]
+#[derive(Clone, Copy)]
 struct DrawnTask {
     task: Task,
     state: u64,
 }
 
 // A made-up chain. The refusal is number 0 at place 0 in a success; in a refusal the chain is zeros.
-#[derive(Drop)]
+#[derive(Clone, Copy)]
 pub struct Load {
     pub refusal: Refusal,
     pub chain: Chain,

@@ -13,7 +13,7 @@ use schedule::{NumberedTask, Route, Schedule};
 use task::Task;
 
 // The bytes to put out, zeros past them, and whether they are the file, for standard output, or a line, for standard error.
-#[derive(Drop)]
+#[derive(Clone, Copy)]
 pub struct Answer {
     pub made: bool,
     pub long: usize,

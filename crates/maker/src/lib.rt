@@ -12,7 +12,7 @@ use refusal::Refusal;
 use task::{Job, Place, Tick};
 
 // The anchor count g, the warm-up tick x0, the hyperperiod H and the number of partitions walked.
-#[derive(Drop)]
+#[derive(Clone, Copy)]
 pub struct Figures {
     pub anchors: usize,
     pub tick: Tick,
@@ -21,7 +21,7 @@ pub struct Figures {
 }
 
 // Whole: the lists hold all anchors. Short: refusal 11, the lists hold the first anchors that fit. Refused: the lists are as they were.
-#[derive(Drop)]
+#[derive(Clone, Copy)]
 pub enum Made {
     Whole(Figures),
     Short(Figures),
@@ -29,7 +29,7 @@ pub enum Made {
 }
 
 // What `fill` counts.
-#[derive(Drop)]
+#[derive(Clone, Copy)]
 pub struct Count {
     pub anchors: usize,
     pub walked: u64,

@@ -10,7 +10,7 @@ use partition::Partition;
 use task::{Job, Place, Tick};
 
 // A product with the factor, shifted, stands for a division.
-#[derive(Drop)]
+#[derive(Clone, Copy)]
 pub struct Scale {
     pub factor: u64,
     pub shift: u64,

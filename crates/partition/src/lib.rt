@@ -3,7 +3,7 @@
 use task::{Job, Tick};
 
 // The partition of a job: the read at its start and the write at its end.
-#[derive(Drop)]
+#[derive(Clone, Copy)]
 pub struct Partition {
     pub job: Job,
     pub start: Tick,

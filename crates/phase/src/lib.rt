@@ -21,7 +21,7 @@ use schedule_checks::Chosen;
 use task::{Job, Place};
 
 // The smallest phase, or none; or the refusal.
-#[derive(Drop)]
+#[derive(Clone, Copy)]
 pub enum Phase {
     Of(u64),
     Nothing,
@@ -29,7 +29,7 @@ pub enum Phase {
 }
 
 // Where a search of phases ended, at the number of phases where none keeps the bound, and how many partitions were walked in all.
-#[derive(Drop)]
+#[derive(Clone, Copy)]
 pub struct Tried {
     pub phase: u64,
     pub walked: u64,

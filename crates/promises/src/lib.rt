@@ -17,7 +17,7 @@ use refusal::Refusal;
 use schedule::{Route, Schedule};
 
 // The greatest latency of each chain, in their order, with 0 past the chains. The refusal is number 0 at place 0 where every bound is kept; in a refusal all latencies are 0.
-#[derive(Drop)]
+#[derive(Clone, Copy)]
 pub struct Judged {
     pub refusal: Refusal,
     pub latencies: [u64; 4],

@@ -11,7 +11,9 @@ use Rattle.refusal.specs.declared.Refusal.{Refusal}
 use Rattle.refusal.specs.Refusals.{refusal}
 use Rattle.chain.specs.declared.Chain.{Chain}
 use Rattle.chain.specs.declared.Verdict.{Verdict}
+use Rattle.chain.specs.declared.Verdict.TheVariants as verdict
 use Rattle.chain.specs.Chains.{tasks_of}
+use Rattle.chain.specs.Checks.{verdict_of}
 use Rattle.little_endian.specs.LittleEndian.{Bytes}
 use Rattle.file_reader.specs.declared.FileRead.{FileRead}
 use Rattle.file_reader.specs.Reading.{read_file}
@@ -21,7 +23,7 @@ use Rattle.table.specs.WellFormed.{well_formed}
 use Rattle.maker.specs.declared.Figures.{Figures}
 use Rattle.maker.specs.declared.Made.{Made}
 use Rattle.maker.specs.declared.Made.TheVariants.{Whole, Short, Refused}
-use Rattle.maker.specs.Making.{judged, made_after, made_of, written_after, written_of, Makes}
+use Rattle.maker.specs.Making.{after_checks, judged, made_after, made_of, written_after, written_of, Makes}
 use Rattle.maker.proofs.Lists.{sets_overlay}
 use Rattle.agreement.specs.MadeTable.{Completed, done, starts_length, latencies_length, made_anchors, made_well_formed}
 use Rattle.text.specs.Text.{Puts}
@@ -29,16 +31,23 @@ use Rattle.table_text.specs.TableText.{refused_text, text_of_table}
 use Rattle.latency.specs.LongestPlace.{longest_place}
 use Rattle.report.specs.Report.{made_text, chain_text, schedule_text, file_text, report_of, longest_text, Reports}
 
-module _ (c : Chain) (twelve : length c.tasks ≡ 12) (s v s' v' : List ℕ) (m : Made) (long : length s ≡ 1024) (wide : length v ≡ 1024) (makes : Makes c (longest_place (tasks_of c)) s v s' v' m) where
-  abbrev p : ℕ
-  p = longest_place (tasks_of c)
-
-  -- anything of the lengths and what making judged
-  here : {A : Type 0} (f : ℕ → Verdict → A) → f (length s) (judged c p (length s) (length v)) ≡ f 1024 (judged c p 1024 1024)
-  here f = ap (λ (n : ℕ). f n (judged c p n (length v))) long ∙ ap (λ (n : ℕ). f 1024 (judged c p 1024 n)) wide
+module _ (c : Chain) (twelve : length c.tasks ≡ 12) (p : ℕ) (s v s' v' : List ℕ) (m : Made) (long : length s ≡ 1024) (wide : length v ≡ 1024)
+    (place : (h : ℕ) → verdict_of c ≡ verdict.Accepted h → p ≡ longest_place (tasks_of c)) (makes : Makes c p s v s' v' m) where
+  -- anything of the lengths, the place and what making judged; a refusal does not look at the place
+  here : {A : Type 0} (f : ℕ → ℕ → Verdict → A) → ((n : ℕ) (r : Refusal) → f n p (verdict.Refused r) ≡ f n (longest_place (tasks_of c)) (verdict.Refused r))
+      → f (length s) p (judged c p (length s) (length v)) ≡ f 1024 (longest_place (tasks_of c)) (judged c (longest_place (tasks_of c)) 1024 1024)
+  unfolding judged
+  here f same =
+      ap (λ (n : ℕ). f n p (judged c p n (length v))) long ∙ ap (λ (n : ℕ). f 1024 p (judged c p 1024 n)) wide
+      ∙ go (verdict_of c) refl
+    where
+      go : (x : Verdict) → verdict_of c ≡ x → f 1024 p (after_checks x c.places p 1024 1024) ≡ f 1024 (longest_place (tasks_of c)) (after_checks x c.places (longest_place (tasks_of c)) 1024 1024)
+      go (verdict.Refused r) e = same 1024 r
+      go (verdict.Accepted h) e = ap (λ (q : ℕ). f 1024 q (after_checks (verdict.Accepted h) c.places q 1024 1024)) (place h e)
 
   answer : m ≡ made_of c (longest_place (tasks_of c)) 1024 1024
-  answer = makes.answer ∙ here (λ n. made_after c p n)
+  unfolding made_after
+  answer = makes.answer ∙ here (λ n q x. made_after c q n x) (λ n r. refl)
 
   says : (k : Made) (l : List Anchor) → m ≡ k → l ≡ written_of c (longest_place (tasks_of c)) 1024 1024 → made_text k l ≡ chain_text 1024 c
   unfolding chain_text
@@ -69,7 +78,7 @@ module _ (c : Chain) (twelve : length c.tasks ≡ 12) (s v s' v' : List ℕ) (m 
 
     written : anchors s' v' f.anchors ≡ written_of c (longest_place (tasks_of c)) 1024 1024
     unfolding written_after
-    written = made_anchors c twelve p s v s' v' f made ∙ sym (ap (written_after c p) complete.says ∙ complete.cut) ∙ here (λ n. written_after c p)
+    written = made_anchors c twelve p s v s' v' f made ∙ sym (ap (written_after c p) complete.says ∙ complete.cut) ∙ here (λ n q x. written_after c q x) (λ n r. refl)
 
     pub chain_whole : (k o : List ℕ) (at to : ℕ) → Puts (text_of_table f (anchors s' v' f.anchors)) at k o to → Puts (chain_text 1024 c) at k o to
     unfolding made_text

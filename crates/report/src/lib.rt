@@ -21,7 +21,10 @@ fn put_chain(
     requires { (length starts.old ≡ 1024) × (length latencies.old ≡ 1024) × (at ≤ 92000) }
     ensures { (Puts (chain_text 1024 c) at out.old out.new result) × (result ≤ at + longest_table) }
 {
-    let m = latency::make_at_longest(c, starts, latencies);
+    let tasks = chain::flat(c);
+    let n = chain::flat_length(c.places);
+    let p = latency::longest_place(&tasks[..n], c.gap);
+    let m = maker::make_table_on(&tasks[..n], c.gap, p, starts, latencies);
     match m {
         Made::Refused(r) => table_text::put_refusal(out, at, r),
         Made::Short(_) => table_text::put_refusal(

@@ -8,7 +8,7 @@ use task::Task;
 
 // A task and its number in the schedule.
 #[repr(C)]
-#[derive(Drop)]
+#[derive(Clone, Copy)]
 pub struct NumberedTask {
     pub number: u64,
     pub task: Task,
@@ -16,7 +16,7 @@ pub struct NumberedTask {
 
 // A chain of a schedule: the number of the task at each place, and how many places there are, 1 to 12.
 #[repr(C)]
-#[derive(Drop)]
+#[derive(Clone, Copy)]
 pub struct Route {
     pub places: [u64; 12],
     pub count: usize,
@@ -25,7 +25,7 @@ pub struct Route {
 // Document 01 with order 1 of document 02: up to 32 tasks and 1 to 4 chains, numbered by their place from 1. Entries from a count on are no part of the schedule.
 // Order 5: one gap, 0 to 1,000 ticks, for every link of every chain.
 #[repr(C)]
-#[derive(Drop)]
+#[derive(Clone, Copy)]
 pub struct Schedule {
     pub tasks: [NumberedTask; 32],
     pub routes: [Route; 4],

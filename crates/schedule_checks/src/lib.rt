@@ -11,7 +11,7 @@ use schedule::{NumberedTask, Route, Schedule};
 use task::Task;
 
 // A chain that was chosen. The refusal is number 0 at place 0 in a success; in a refusal the chain is zeros.
-#[derive(Drop)]
+#[derive(Clone, Copy)]
 pub struct Chosen {
     pub refusal: Refusal,
     pub chain: Chain,

@@ -11,7 +11,7 @@ use refusal::Refusal;
 
 // The sections' greatest latencies in order, with 0 past them, their number, and the sum with one gap for each cut. The refusal is number 0 at place 0 in a success; in a
 // refusal all else is zero.
-#[derive(Drop)]
+#[derive(Clone, Copy)]
 pub struct Sections {
     pub refusal: Refusal,
     pub latencies: [u64; 12],

@@ -43,14 +43,13 @@ use Rattle.histogram.specs.declared.Histogram.TheVariants as histogram
 use Rattle.histogram.specs.Histogram.{histogram_of, counts_of}
 use Rattle.partition.specs.Lists.{range_from, keep, fresh, drop_repeats}
 use Rattle.partition.specs.Partitions.{start_of, end_of, keeps, anchors_from}
-use Rattle.maker.specs.Making.{judged, made_after, made_of, written_after, written_of, starts_of, latencies_of, overlay, told}
+use Rattle.maker.specs.Making.{judged, made_after, made_of, written_after, written_of, starts_of, latencies_of, told}
 use Rattle.ranges.specs.Largest.{largest}
 use Rattle.windows.specs.declared.Windows.{Windows}
 use Rattle.windows.specs.declared.Windows.TheVariants as window
 use Rattle.windows.specs.Windows.{span_of, misses, misses_in, window_of, most_misses, earliest_job, windows_after, windows_of}
 use Rattle.windows.specs.Windows as windows-of
-use Rattle.schedule.specs.Schedules.{padded, position_of}
-use Rattle.latency.specs.LongestPlace.{longest_period, longest_place}
+use Rattle.schedule.specs.Schedules.{padded}
 use Rattle.latency.specs.Latency.{greatest_latency}
 use Rattle.sections.specs.declared.Sections.{Sections}
 use Rattle.sections.specs.Sections as sections
@@ -70,9 +69,7 @@ use Rattle.promises.specs.Promises.{hyper_refusal, checks_of, judged_of}
 use Rattle.instrument.specs.declared.State.{State}
 use Rattle.instrument.specs.declared.Asked.{Asked}
 use Rattle.instrument.specs.declared.Committed.{Committed}
-use Rattle.instrument.specs.Instrument.{is_party, party_refusal, proposes, view_of, make_of, ask_answer, ask_of, proposal_refusal, commit_answer, commit_of}
-use Rattle.instrument_read.specs.declared.Shown.{Shown}
-use Rattle.instrument_read.specs.Reading.{standing, shown_with, shown_of, shown_anchors, read_answer, read_anchors}
+use Rattle.instrument.specs.Instrument.{make_of, ask_of, commit_refusal, commit_of}
 
 -- ---- the chains
 
@@ -228,9 +225,9 @@ phase_is (phases.Refused r) = r.number ∷ r.place ∷ []
 abbrev bounded : ℕ → ℕ → ℕ → ℕ → Bounded
 bounded g x y z = cleared (record { schedule = schedule_of (numbered 1 4 4 0 ∷ numbered 2 6 6 0 ∷ []) ((1 ∷ 2 ∷ []) ∷ (2 ∷ []) ∷ []) g; bounds = x ∷ y ∷ z ∷ 7 ∷ [] })
 
--- The bounds of what runs, and of each party whether a proposal stands, and its bounds.
+-- The bounds of what runs, whether a proposal stands, and its bounds.
 abbrev bounds_in : State → List ℕ
-bounds_in s = s.running.bounds ++ (s.firmware.stands ∷ s.firmware.proposal.bounds) ++ (s.tablet.stands ∷ s.tablet.proposal.bounds)
+bounds_in s = s.running.bounds ++ (s.firmware.stands ∷ s.firmware.proposal.bounds)
 
 abbrev refusal_is : Refusal → List ℕ
 refusal_is r = r.number ∷ r.place ∷ []
@@ -240,41 +237,16 @@ abbrev made : State
 made = (make_of (bounded 0 18 12 9)).state
 
 abbrev first : Asked
-first = ask_of made 1 (bounded 1 20 12 9)
+first = ask_of made (bounded 1 20 12 9)
 
 abbrev second : Asked
-second = ask_of first.state 1 (bounded 1 19 12 9)
+second = ask_of first.state (bounded 1 19 12 9)
 
 abbrev other : Committed
-other = commit_of second.state 1 (bounded 0 20 12 9)
+other = commit_of second.state (bounded 0 20 12 9)
 
 abbrev committed : Committed
-committed = commit_of other.state 1 (bounded 1 20 12 8)
-
--- Order 11: from the same state the tablet asks, then the firmware, for another gap; then the firmware commits what it asked for.
-abbrev tablet_asks : Asked
-tablet_asks = ask_of made 2 (bounded 0 19 13 9)
-
-abbrev both : State
-both = (ask_of tablet_asks.state 1 (bounded 1 20 12 9)).state
-
-abbrev after : Committed
-after = commit_of both 1 (bounded 1 20 12 9)
-
--- What a party reads of a chain, with lists of a and b entries: the refusal, chains, gap and bounds of what runs, whether a proposal stands, its chains, gap and bounds, and g, x0, H and the walked number,
-abbrev bounded_is : Bounded → List ℕ
-bounded_is b = b.schedule.chains ∷ b.schedule.gap ∷ b.bounds
-
-abbrev shown_is : Shown → List ℕ
-shown_is r = (r.refusal.number ∷ r.refusal.place ∷ []) ++ bounded_is r.running ++ (r.stands ∷ bounded_is r.proposal) ++ (r.anchors ∷ r.tick ∷ r.hyperperiod ∷ r.walked ∷ [])
-
-abbrev reads : State → ℕ → ℕ → ℕ → ℕ → List ℕ
-reads s party n a b = shown_is (read_answer (view_of s party) party n a b)
-
--- and what lists of nines hold then.
-abbrev listed : State → ℕ → ℕ → ℕ → ℕ → List ℕ
-listed s party n a b =
-    overlay (starts_of (read_anchors (view_of s party) party n a b)) (replicate a 9) ++ overlay (latencies_of (read_anchors (view_of s party) party n a b)) (replicate b 9)
+committed = commit_of other.state (bounded 1 20 12 8)
 
 -- ---- the list
 
@@ -327,13 +299,7 @@ computed =
     -- order 10 of document 02: making with the greatest latencies as bounds, and one less; each of those calls, what it leaves, and a commit where no proposal stands
     ∷ refusal_is (make_of (bounded 0 18 12 9)).refusal ∷ bounds_in made ∷ refusal_is (make_of (bounded 0 17 12 9)).refusal ∷ bounds_in (make_of (bounded 0 17 12 9)).state
     ∷ refusal_is first.refusal ∷ first.latencies ∷ bounds_in first.state ∷ refusal_is second.refusal ∷ second.latencies ∷ bounds_in second.state
-    ∷ refusal_is other.refusal ∷ bounds_in other.state ∷ refusal_is committed.refusal ∷ bounds_in committed.state ∷ refusal_is (commit_of committed.state 1 (bounded 1 20 12 9)).refusal
-    -- order 11 of document 02: each of those calls and what it leaves; the tablet's commit, and a third party's; reads of both parties before the commit, of a chain that is not there, in lists that are too short or differ in
-    -- length, and of no party; a commit of what only the tablet proposes; and a read after the commit
-    ∷ refusal_is tablet_asks.refusal ∷ tablet_asks.latencies ∷ bounds_in both ∷ refusal_is (commit_of both 2 (bounded 1 20 12 9)).refusal ∷ refusal_is (commit_of both 3 (bounded 1 20 12 9)).refusal
-    ∷ reads both 2 1 2 2 ∷ listed both 2 1 2 2 ∷ reads both 1 1 1 1 ∷ listed both 1 1 1 1 ∷ reads both 1 2 3 3 ∷ listed both 1 2 3 3 ∷ reads both 1 3 2 2 ∷ listed both 1 3 2 2 ∷ reads both 1 1 2 1 ∷ listed both 1 1 2 1
-    ∷ reads both 0 1 2 2 ∷ listed both 0 1 2 2
-    ∷ refusal_is (commit_of both 1 (bounded 0 19 13 9)).refusal ∷ refusal_is after.refusal ∷ bounds_in after.state ∷ reads after.state 2 1 2 2 ∷ listed after.state 2 1 2 2
+    ∷ refusal_is other.refusal ∷ bounds_in other.state ∷ refusal_is committed.refusal ∷ bounds_in committed.state ∷ refusal_is (commit_of committed.state (bounded 1 20 12 9)).refusal
     -- D
     ∷ warm D ∷ ticks_of (delay_of D 90) ∷ ticks_of (delay_of D 89)
     -- E: no place, 13 places, H at its limit and above
@@ -341,7 +307,7 @@ computed =
     ∷ verdict_is (verdict_of (E 768)) ∷ verdict_is (verdict_of (E 769))
     ∷ []
 
--- What the documents say, in the same order; the warm-ups of chain C with a gap follow from order 5, chain A with gap 7 from orders 5 and 6, the histograms of A and B from order 7, the chains of seeds from order 8, the phases from order 9, the state's bounds from order 10 and what is read from order 11, which do not name them.
+-- What the documents say, in the same order; the warm-ups of chain C with a gap follow from order 5, chain A with gap 7 from orders 5 and 6, the histograms of A and B from order 7, the chains of seeds from order 8, the phases from order 9 and the state's bounds from order 10, which do not name them.
 abbrev pub said : List (List ℕ)
 said =
     (0 ∷ 12 ∷ 0 ∷ 0 ∷ 1 ∷ [])
@@ -373,18 +339,14 @@ said =
     ∷ (0 ∷ 0 ∷ []) ∷ (1 ∷ []) ∷ (0 ∷ 0 ∷ []) ∷ (1 ∷ [])
     ∷ (0 ∷ 0 ∷ []) ∷ (0 ∷ 5 ∷ []) ∷ (0 ∷ 5 ∷ []) ∷ (1 ∷ [])
     ∷ (19 ∷ 0 ∷ []) ∷ (16 ∷ 0 ∷ []) ∷ (20 ∷ 0 ∷ []) ∷ (19 ∷ 0 ∷ [])
-    ∷ (0 ∷ 0 ∷ []) ∷ (18 ∷ 12 ∷ 0 ∷ 0 ∷ 0 ∷ 0 ∷ 0 ∷ 0 ∷ 0 ∷ 0 ∷ 0 ∷ 0 ∷ 0 ∷ 0 ∷ []) ∷ (21 ∷ 0 ∷ []) ∷ (0 ∷ 0 ∷ 0 ∷ 0 ∷ 0 ∷ 0 ∷ 0 ∷ 0 ∷ 0 ∷ 0 ∷ 0 ∷ 0 ∷ 0 ∷ 0 ∷ [])
-    ∷ (0 ∷ 0 ∷ []) ∷ (20 ∷ 12 ∷ 0 ∷ 0 ∷ []) ∷ (18 ∷ 12 ∷ 0 ∷ 0 ∷ 1 ∷ 20 ∷ 12 ∷ 0 ∷ 0 ∷ 0 ∷ 0 ∷ 0 ∷ 0 ∷ 0 ∷ []) ∷ (21 ∷ 0 ∷ []) ∷ (0 ∷ 0 ∷ 0 ∷ 0 ∷ []) ∷ (18 ∷ 12 ∷ 0 ∷ 0 ∷ 1 ∷ 20 ∷ 12 ∷ 0 ∷ 0 ∷ 0 ∷ 0 ∷ 0 ∷ 0 ∷ 0 ∷ [])
-    ∷ (23 ∷ 0 ∷ []) ∷ (18 ∷ 12 ∷ 0 ∷ 0 ∷ 1 ∷ 20 ∷ 12 ∷ 0 ∷ 0 ∷ 0 ∷ 0 ∷ 0 ∷ 0 ∷ 0 ∷ []) ∷ (0 ∷ 0 ∷ []) ∷ (20 ∷ 12 ∷ 0 ∷ 0 ∷ 0 ∷ 0 ∷ 0 ∷ 0 ∷ 0 ∷ 0 ∷ 0 ∷ 0 ∷ 0 ∷ 0 ∷ []) ∷ (22 ∷ 0 ∷ [])
-    ∷ (0 ∷ 0 ∷ []) ∷ (18 ∷ 12 ∷ 0 ∷ 0 ∷ []) ∷ (18 ∷ 12 ∷ 0 ∷ 0 ∷ 1 ∷ 20 ∷ 12 ∷ 0 ∷ 0 ∷ 1 ∷ 19 ∷ 13 ∷ 0 ∷ 0 ∷ []) ∷ (25 ∷ 0 ∷ []) ∷ (24 ∷ 0 ∷ [])
-    ∷ (0 ∷ 0 ∷ 2 ∷ 0 ∷ 18 ∷ 12 ∷ 0 ∷ 0 ∷ 1 ∷ 2 ∷ 0 ∷ 19 ∷ 13 ∷ 0 ∷ 0 ∷ 2 ∷ 0 ∷ 12 ∷ 2 ∷ []) ∷ (0 ∷ 8 ∷ 18 ∷ 16 ∷ []) ∷ (11 ∷ 0 ∷ 0 ∷ 0 ∷ 0 ∷ 0 ∷ 0 ∷ 0 ∷ 0 ∷ 0 ∷ 0 ∷ 0 ∷ 0 ∷ 0 ∷ 0 ∷ 2 ∷ 0 ∷ 12 ∷ 2 ∷ []) ∷ (0 ∷ 18 ∷ []) ∷ (0 ∷ 0 ∷ 2 ∷ 0 ∷ 18 ∷ 12 ∷ 0 ∷ 0 ∷ 1 ∷ 2 ∷ 1 ∷ 20 ∷ 12 ∷ 0 ∷ 0 ∷ 1 ∷ 0 ∷ 6 ∷ 1 ∷ []) ∷ (0 ∷ 9 ∷ 9 ∷ 12 ∷ 9 ∷ 9 ∷ []) ∷ (16 ∷ 0 ∷ 0 ∷ 0 ∷ 0 ∷ 0 ∷ 0 ∷ 0 ∷ 0 ∷ 0 ∷ 0 ∷ 0 ∷ 0 ∷ 0 ∷ 0 ∷ 0 ∷ 0 ∷ 0 ∷ 0 ∷ []) ∷ (9 ∷ 9 ∷ 9 ∷ 9 ∷ []) ∷ (10 ∷ 0 ∷ 0 ∷ 0 ∷ 0 ∷ 0 ∷ 0 ∷ 0 ∷ 0 ∷ 0 ∷ 0 ∷ 0 ∷ 0 ∷ 0 ∷ 0 ∷ 0 ∷ 0 ∷ 0 ∷ 0 ∷ []) ∷ (9 ∷ 9 ∷ 9 ∷ [])
-    ∷ (24 ∷ 0 ∷ 0 ∷ 0 ∷ 0 ∷ 0 ∷ 0 ∷ 0 ∷ 0 ∷ 0 ∷ 0 ∷ 0 ∷ 0 ∷ 0 ∷ 0 ∷ 0 ∷ 0 ∷ 0 ∷ 0 ∷ []) ∷ (9 ∷ 9 ∷ 9 ∷ 9 ∷ [])
-    ∷ (23 ∷ 0 ∷ []) ∷ (0 ∷ 0 ∷ []) ∷ (20 ∷ 12 ∷ 0 ∷ 0 ∷ 0 ∷ 0 ∷ 0 ∷ 0 ∷ 0 ∷ 0 ∷ 0 ∷ 0 ∷ 0 ∷ 0 ∷ []) ∷ (0 ∷ 0 ∷ 2 ∷ 1 ∷ 20 ∷ 12 ∷ 0 ∷ 0 ∷ 0 ∷ 0 ∷ 0 ∷ 0 ∷ 0 ∷ 0 ∷ 0 ∷ 2 ∷ 0 ∷ 12 ∷ 2 ∷ []) ∷ (0 ∷ 4 ∷ 18 ∷ 20 ∷ [])
+    ∷ (0 ∷ 0 ∷ []) ∷ (18 ∷ 12 ∷ 0 ∷ 0 ∷ 0 ∷ 0 ∷ 0 ∷ 0 ∷ 0 ∷ []) ∷ (21 ∷ 0 ∷ []) ∷ (0 ∷ 0 ∷ 0 ∷ 0 ∷ 0 ∷ 0 ∷ 0 ∷ 0 ∷ 0 ∷ [])
+    ∷ (0 ∷ 0 ∷ []) ∷ (20 ∷ 12 ∷ 0 ∷ 0 ∷ []) ∷ (18 ∷ 12 ∷ 0 ∷ 0 ∷ 1 ∷ 20 ∷ 12 ∷ 0 ∷ 0 ∷ []) ∷ (21 ∷ 0 ∷ []) ∷ (0 ∷ 0 ∷ 0 ∷ 0 ∷ []) ∷ (18 ∷ 12 ∷ 0 ∷ 0 ∷ 1 ∷ 20 ∷ 12 ∷ 0 ∷ 0 ∷ [])
+    ∷ (23 ∷ 0 ∷ []) ∷ (18 ∷ 12 ∷ 0 ∷ 0 ∷ 1 ∷ 20 ∷ 12 ∷ 0 ∷ 0 ∷ []) ∷ (0 ∷ 0 ∷ []) ∷ (20 ∷ 12 ∷ 0 ∷ 0 ∷ 0 ∷ 0 ∷ 0 ∷ 0 ∷ 0 ∷ []) ∷ (22 ∷ 0 ∷ [])
     ∷ (0 ∷ 10 ∷ 90 ∷ 9 ∷ 0 ∷ []) ∷ (0 ∷ 16 ∷ []) ∷ (12 ∷ 0 ∷ [])
     ∷ (8 ∷ 0 ∷ []) ∷ (8 ∷ 0 ∷ [])
     ∷ (0 ∷ 60000000 ∷ []) ∷ (7 ∷ 0 ∷ [])
     ∷ []
 
 pub survey : computed ≡ said
-unfolding computed within_limits earliest_from latest_over forward_link backward_link euclid gcd_of lcm_of forward_by on_latest backward_by hyper_from first_fault hyper_verdict after_gap verdict_for least_from warm_last warm_at warm_tick delay_at first_aged age_at entries warm_up_after span_after anchors spaced well_formed read.reading read.delay_at read.last_at greatest low_to low total every_above longest_run ticks delay_sum doubled_area exceedance greatest_of low_of mean_of exceedance_of range_from keep fresh drop_repeats start_of end_of keeps anchors_from judged made_after written_after span_of misses misses_in largest most_misses earliest_job windows_after padded sections.parts_from sections.rises_to sum sections.sections_after greatest_latency histogram_of counts_of load.draw_of load.period_of load.drawn_task load.tasks_from load.load_of flat_of task_rule known task_numbered route_numbered schedule-checks.count_right schedule-checks.places_right schedule-checks.counts_right schedule-checks.first_fault schedule-checks.first_unknown schedule-checks.unknown_place schedule-checks.after_gap schedule-checks.fault_of schedule-checks.choice_of schedule-checks.after_choice phase_after pairwise same_task same_route same_schedule same_bounded hyper_refusal checks_of judged_of make_of is_party party_refusal proposes view_of ask_answer ask_of proposal_refusal commit_answer commit_of position_of longest_period longest_place standing shown_with shown_of shown_anchors read_answer read_anchors
+unfolding computed within_limits earliest_from latest_over forward_link backward_link euclid gcd_of lcm_of forward_by on_latest backward_by hyper_from first_fault hyper_verdict after_gap verdict_for least_from warm_last warm_at warm_tick delay_at first_aged age_at entries warm_up_after span_after anchors spaced well_formed read.reading read.delay_at read.last_at greatest low_to low total every_above longest_run ticks delay_sum doubled_area exceedance greatest_of low_of mean_of exceedance_of range_from keep fresh drop_repeats start_of end_of keeps anchors_from judged made_after written_after span_of misses misses_in largest most_misses earliest_job windows_after padded sections.parts_from sections.rises_to sum sections.sections_after greatest_latency histogram_of counts_of load.draw_of load.period_of load.drawn_task load.tasks_from load.load_of flat_of task_rule known task_numbered route_numbered schedule-checks.count_right schedule-checks.places_right schedule-checks.counts_right schedule-checks.first_fault schedule-checks.first_unknown schedule-checks.unknown_place schedule-checks.after_gap schedule-checks.fault_of schedule-checks.choice_of schedule-checks.after_choice phase_after pairwise same_task same_route same_schedule same_bounded hyper_refusal checks_of judged_of make_of ask_of commit_refusal commit_of
 survey = refl

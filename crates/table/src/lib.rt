@@ -23,7 +23,7 @@ const TOO_LATE: u64 = 13;
 const NOT_WELL_FORMED: u64 = 14;
 
 // The delay at a tick.
-#[derive(Drop)]
+#[derive(Clone, Copy)]
 pub enum Reading {
     Delay(u64),
     Refused(Refusal),

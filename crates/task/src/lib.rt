@@ -7,7 +7,7 @@ ghost use Rattle.task.specs.Links.{earliest_from, earliest_after, latest_over, l
 
 // Document 01: period T, duration D and phase F.
 #[repr(C)]
-#[derive(Drop)]
+#[derive(Clone, Copy)]
 pub struct Task {
     pub period: u64,
     pub duration: u64,
@@ -15,7 +15,7 @@ pub struct Task {
 }
 
 // A place of a chain: the values of its task, and the gap of order 5, the ticks after a write until the next place can read it.
-#[derive(Drop)]
+#[derive(Clone, Copy)]
 pub struct Place {
     pub period: u64,
     pub duration: u64,
@@ -24,15 +24,15 @@ pub struct Place {
 }
 
 // A job's number, counted from 0.
-#[derive(Drop)]
+#[derive(Clone, Copy)]
 pub struct Job(pub u64);
 
 // A point in time, in whole ticks.
-#[derive(Drop)]
+#[derive(Clone, Copy)]
 pub struct Tick(pub u64);
 
 // The latest job that something holds of; there may be none.
-#[derive(Drop)]
+#[derive(Clone, Copy)]
 pub enum Latest {
     Of(Job),
     Nothing,

@@ -13,7 +13,7 @@ use refusal::Refusal;
 use task::{Job, Place, Tick};
 
 // W1 to Wn, the warm-up tick x0 and the hyperperiod H. The refusal is number 0 at place 0 in a success; in a refusal all else is zero.
-#[derive(Drop)]
+#[derive(Clone, Copy)]
 pub struct WarmUp {
     pub refusal: Refusal,
     pub jobs: [Job; 12],
@@ -22,7 +22,7 @@ pub struct WarmUp {
 }
 
 // A delay or an age in ticks, or the refusal.
-#[derive(Drop)]
+#[derive(Clone, Copy)]
 pub enum Span {
     Ticks(u64),
     Refused(Refusal),

@@ -8,10 +8,10 @@ use Rattle.euclid.proofs.lcm.Tie as tie
 gcd-requires : tie.Need-gcd-requires
 gcd-requires c κs = tt
 
-div-result : tie.Need-nonzero-div-result
+div-result : tie.Need-nonzero_div-result
 div-result c = omega (arith, c.gcd.ensures, gcd_pos c.before.args.a c.before.args.b c.before.requires.0)
 
-mul-result : tie.Need-overflow-mul-result
+mul-result : tie.Need-overflow_mul-result
 mul-result c =
     let a = c.before.args in
     omega (arith, mul-le-mul_right a.b (div-le_self a.a c.gcd.result), c.before.requires.1)
