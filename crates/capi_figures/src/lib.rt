@@ -1,5 +1,6 @@
 // The calls for C and for hosts on a table's figures: plain numbers and lists of numbers. include/meshorchard.h declares them and says how to use them.
 // A call answers 0, or its refusal as one number: the refusal's number and 256 times its place. The figures go to the numbers that are lent to it.
+#![tactic(auto)]
 ghost use Rattle.std.specs.Prelude.{◌≡◌, [], ◌∷◌};
 ghost use Rattle.figures.specs.Figures.{low_of, throughput_of, exceedance_of};
 ghost use Rattle.capi_figures.specs.Calls.{GivesGreatest, low_numbers, GivesMean, throughput_numbers, exceedance_numbers};

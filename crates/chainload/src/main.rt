@@ -5,6 +5,7 @@
 // ./load gives one. A write that fails is told on standard error, with the system's reason.
 // Which bytes answer the words, and whether they are the file or a line, is proved (`load_file::answer_to`), also that they fit. A word of more than 20 bytes comes as an empty one; neither is a number.
 // Not proved, since no contract can say it: that these are the words of the command line, and that a file goes to standard output and a line to standard error. tests/load.py looks at that.
+#![tactic(auto)]
 use libc::{STDERR_FILENO, STDOUT_FILENO};
 
 fn main() {

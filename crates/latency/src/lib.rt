@@ -1,6 +1,7 @@
 // The greatest latency of a chain without a table: one walk over the partitions of a hyperperiod, with no list. And the place at which that walk is least work.
 // All functions are for the crates above. `longest_place` takes any list of up to twelve tasks and counts places from 1, as document 01 does; the others take lists that the checks accepted and count
 // the place p from 0.
+#![tactic(auto)]
 ghost use Rattle.std.specs.Prelude.{◌≡◌, length, ◌-◌, ◌≤◌, ◌<◌, max};
 ghost use Rattle.chain.specs.Checks.{Sound};
 ghost use Rattle.chain.specs.Hyperperiod.{hyper_of};

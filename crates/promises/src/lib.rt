@@ -1,6 +1,7 @@
 // Whether a schedule keeps the bounds that go with it (order 10 of document 02): the checks of the schedule and of each of its chains, the greatest latency of each, and whether one is above its bound.
 // `judge` is the entry point: it takes any schedule with any bounds. The other functions are its steps.
 // All hyperperiods are looked at before any chain is walked, so that a schedule with a chain that 7 refuses costs no walk.
+#![tactic(auto)]
 ghost use Rattle.std.specs.Prelude.{◌≡◌, leb, length, ◌<◌};
 ghost use Rattle.chain.specs.declared.Verdict.TheVariants as verdict;
 ghost use Rattle.chain.specs.Chains.{tasks_of};
