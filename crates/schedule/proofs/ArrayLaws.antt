@@ -14,10 +14,10 @@ use Rattle.schedule.specs.Arrays.{Arrays}
 use Rattle.schedule.specs.contracts.Route as route
 use Rattle.schedule.specs.contracts.Schedule as schedule
 
-one_twelve : (r : Route) (vs : List Val) → shadow ((route.the_field).row.own_val ((route.the_field).into r) vs) → length r.places ≡ 12
-one_twelve r vs s = simp length-map at s.1.1.0.1.0.1
+one_twelve : (r : Route) (vs : List Val) → shadow ((route.the_row).own_val r vs) → length r.places ≡ 12
+one_twelve r vs s = s.1.1.0.1.0.1
 
-each_twelve : (rs : List Route) (us : List Val) → shadow (each (route.the_field).row.Denot (route.the_field).row.own_val (map (route.the_field).into rs) us) → (i : ℕ) → i < length rs → length (get_or rs i no_route).places ≡ 12
+each_twelve : (rs : List Route) (us : List Val) → shadow (each (route.the_row).Denot (route.the_row).own_val rs us) → (i : ℕ) → i < length rs → length (get_or rs i no_route).places ≡ 12
 each_twelve [] us s i h = absurd (omega arith)
 each_twelve (r ∷ rs) [] s i h = absurd s
 each_twelve (r ∷ rs) (u ∷ us) s zero h = one_twelve r (u ∷ []) s.0
@@ -25,5 +25,5 @@ each_twelve (r ∷ rs) (u ∷ us) s (suc i) h = each_twelve rs us s.1 i (omega a
 
 pub arrays : (s : Schedule) (vs : List Val) → shadow ((schedule.the_field).row.own_val ((schedule.the_field).into s) vs) → Arrays s
 arrays s vs o =
-    let n : length s.routes ≡ 4 = simp length-map at o.1.1.1.0.1.0.1 in
-    record { tasks = simp length-map at o.1.1.0.1.0.1; routes = n; places = λ i h. each_twelve s.routes _ o.1.1.1.0.1.1 i (omega (arith, n)) }
+    let n : length s.routes ≡ 4 = o.1.1.1.0.1.0.1 in
+    record { tasks = o.1.1.0.1.0.1; routes = n; places = λ i h. each_twelve s.routes _ o.1.1.1.0.1.1 i (omega (arith, n)) }

@@ -1,0 +1,31 @@
+use mathlib.Core.Path.{◌≡◌, sym, ap, ◌∙◌}
+use Rattle.chain.specs.Checks.{verdict_of}
+use Rattle.capi_chain.specs.FlatChain.{chain_from}
+use Rattle.capi_chain.proofs.Given.{Given, given}
+use Rattle.capi_timing.specs.Calls.{verdict_code, verdict_hyper}
+use Rattle.capi_timing.proofs.Small.{verdict_fits}
+use borrow.Author.Rules.{rules}
+use Rattle.capi_timing.proofs.mo_check.Goals as goal
+use Rattle.capi_timing.proofs.mo_check.Goals.{After-check_on-v, After-flat_length-n}
+
+front : (c : After-flat_length-n) → Given c.args.tasks.now c.args.places c.args.gap c.flat_length-n.result
+front c = given _ _ _ _ c.flat_length-n.ensures
+
+answer : (c : After-check_on-v) → c.check_on-v.result ≡ verdict_of (chain_from c.args.tasks.now c.args.places c.args.gap)
+answer c = c.check_on-v.ensures ∙ (given _ _ _ _ c.flat_length-n.ensures).stands.verdict
+
+pub slice_bounds-check_on-end : goal.slice_bounds-check_on-end
+slice_bounds-check_on-end c = (front c).long
+
+pub code-requires : goal.code-requires
+code-requires c = verdict_fits _ _ _ (answer (goal.at.code-requires c).After-check_on-v) c.in-Refused.is
+
+pub returns-in-Accepted : goal.returns-in-Accepted
+returns-in-Accepted c =
+    let e = sym c.in-Accepted.is ∙ answer (goal.at.returns-in-Accepted c).After-check_on-v in
+    (ap verdict_code e, ap verdict_hyper e)
+
+pub returns-in-Refused : goal.returns-in-Refused
+returns-in-Refused c =
+    let e = sym c.in-Refused.is ∙ answer (goal.at.returns-in-Refused c).After-check_on-v in
+    (c.code.ensures ∙ ap verdict_code e, ap verdict_hyper e)
