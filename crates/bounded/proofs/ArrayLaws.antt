@@ -9,4 +9,4 @@ use Rattle.bounded.specs.Cleared.{BoundedArrays}
 use Rattle.bounded.specs.contracts.Bounded as bounded
 
 pub bounded_arrays : (b : Bounded) (vs : List Val) → shadow ((bounded.the_field).row.own_val ((bounded.the_field).into b) vs) → BoundedArrays b
-bounded_arrays b vs o = record { schedule = arrays b.schedule _ o.1.1.0; bounds = simp length-map at o.1.1.1.0.1.0.1 }
+bounded_arrays b vs o = record { schedule = arrays b.schedule _ o.1.1.0; bounds = o.1.1.1.0.1.0.1 }

@@ -1,0 +1,31 @@
+use mathlib.Core.Path.{◌≡◌, refl, ◌∙◌}
+use Rattle.capi_chain.specs.FlatChain.{chain_from}
+use Rattle.capi_chain.proofs.Given.{Given, given}
+use Rattle.windows.specs.Windows.{windows_of}
+use Rattle.windows.specs.Standing.{windows_stands}
+use Rattle.refusal.proofs.Arms.{gives, gives_refusal}
+use Rattle.capi_windows.specs.Calls.{window_numbers}
+use Rattle.capi_windows.proofs.Gives.{code_fits}
+use borrow.Author.Rules.{rules}
+use Rattle.capi_windows.proofs.mo_windows.Goals as goal
+use Rattle.capi_windows.proofs.mo_windows.Goals.{After-flat_length-n, After-most_misses_on-w}
+
+front : (c : After-flat_length-n) → Given c.args.tasks.now c.args.places c.args.gap c.flat_length-n.result
+front c = given _ _ _ _ c.flat_length-n.ensures
+
+answer : (c : After-most_misses_on-w) → c.most_misses_on-w.result ≡ windows_of (chain_from c.args.tasks.now c.args.places c.args.gap) c.args.b c.args.k
+answer c = c.most_misses_on-w.ensures ∙ windows_stands _ _ _ (given _ _ _ _ c.flat_length-n.ensures).stands _ _
+
+pub slice_bounds-most_misses_on-end : goal.slice_bounds-most_misses_on-end
+slice_bounds-most_misses_on-end c = (front c).long
+
+pub code-requires : goal.code-requires
+code-requires c =
+    let a = c.args in
+    code_fits (chain_from a.tasks.now a.places a.gap) a.b a.k _ _ (answer (goal.at.code-requires c).After-most_misses_on-w) c.in-Refused.is
+
+pub returns-in-Most : goal.returns-in-Most
+returns-in-Most c = gives window_numbers (answer (goal.at.returns-in-Most c).After-most_misses_on-w) c.in-Most.is
+
+pub returns-in-Refused : goal.returns-in-Refused
+returns-in-Refused c = gives_refusal window_numbers (answer (goal.at.returns-in-Refused c).After-most_misses_on-w) c.in-Refused.is c.in-Refused.r _ refl _ c.code.ensures
