@@ -8,8 +8,7 @@ ghost use Rattle.capi_figures.specs.Calls.{GivesGreatest, low_numbers, GivesMean
 use figures::{Exceedance, Greatest, Low, Mean, Throughput};
 
 // The greatest latency.
-#[unsafe(no_mangle)]
-pub extern "C" fn mo_greatest(
+pub fn mo_greatest(
     starts: &[u64],
     latencies: &[u64],
     g: u64,
@@ -32,8 +31,7 @@ pub extern "C" fn mo_greatest(
 }
 
 // The limit that the delay nears and never reaches.
-#[unsafe(no_mangle)]
-pub extern "C" fn mo_low(starts: &[u64], latencies: &[u64], g: u64, h: u64, low: &mut u64) -> u64
+pub fn mo_low(starts: &[u64], latencies: &[u64], g: u64, h: u64, low: &mut u64) -> u64
     ensures { (result ∷ low.new ∷ []) ≡ low_numbers (low_of starts.now latencies.now g h) }
 {
     let a = figures::low_of(starts, latencies, g as usize, h);
@@ -50,8 +48,7 @@ pub extern "C" fn mo_low(starts: &[u64], latencies: &[u64], g: u64, h: u64, low:
 }
 
 // The mean delay, doubled_area / doubled_ticks: the area under the delay over one hyperperiod and its ticks, both doubled.
-#[unsafe(no_mangle)]
-pub extern "C" fn mo_mean(
+pub fn mo_mean(
     starts: &[u64],
     latencies: &[u64],
     g: u64,
@@ -77,8 +74,7 @@ pub extern "C" fn mo_mean(
 }
 
 // The throughput: anchors in the ticks of one hyperperiod.
-#[unsafe(no_mangle)]
-pub extern "C" fn mo_throughput(
+pub fn mo_throughput(
     starts: &[u64],
     latencies: &[u64],
     g: u64,
@@ -104,8 +100,7 @@ pub extern "C" fn mo_throughput(
 }
 
 // The longest exceedance of b: its run of ticks, or `endless` 1.
-#[unsafe(no_mangle)]
-pub extern "C" fn mo_exceedance(
+pub fn mo_exceedance(
     starts: &[u64],
     latencies: &[u64],
     g: u64,

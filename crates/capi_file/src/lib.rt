@@ -8,8 +8,7 @@ ghost use Rattle.capi_file.specs.Calls.{GivesSchedule, GivesFile, GivesChain};
 use file_writer::Written;
 
 // Reads a schedule file: its tasks, its chains and their numbers of places, zeros past them, the two counts and the gap.
-#[unsafe(no_mangle)]
-pub extern "C" fn mo_read_file(
+pub fn mo_read_file(
     bytes: &[u8],
     tasks: &mut [u64; 128],
     chains: &mut [u64; 48],
@@ -31,8 +30,7 @@ pub extern "C" fn mo_read_file(
 }
 
 // Writes a schedule file into lent bytes, and gives its length.
-#[unsafe(no_mangle)]
-pub extern "C" fn mo_write_file(
+pub fn mo_write_file(
     tasks: &[u64],
     count: usize,
     chains: &[u64],
@@ -59,8 +57,7 @@ pub extern "C" fn mo_write_file(
 }
 
 // Chain `number` of a schedule, counted from 1: its tasks as the flat list T, D, F, .., zeros past them, and its number of places.
-#[unsafe(no_mangle)]
-pub extern "C" fn mo_chain_of_schedule(
+pub fn mo_chain_of_schedule(
     tasks: &[u64],
     count: usize,
     chains: &[u64],

@@ -5,8 +5,7 @@ ghost use Rattle.capi_histogram.specs.Calls.{GivesHistogram};
 use histogram::Histogram;
 
 // Entry i of `counts` gets the ticks with a delay from i × width up to below (i + 1) × width, `rest` those beyond the list.
-#[unsafe(no_mangle)]
-pub extern "C" fn mo_histogram(
+pub fn mo_histogram(
     starts: &[u64],
     latencies: &[u64],
     g: u64,

@@ -5,8 +5,7 @@ ghost use Rattle.capi_load.specs.Calls.{GivesLoad};
 use load::Load;
 
 // T, D, F of each place of the chain that a seed and a number of places make, with zeros past them.
-#[unsafe(no_mangle)]
-pub extern "C" fn mo_load(seed: u64, places: usize, tasks: &mut [u64; 36]) -> u64
+pub fn mo_load(seed: u64, places: usize, tasks: &mut [u64; 36]) -> u64
     ensures { GivesLoad seed places result tasks.new }
 {
     let m = load::make_load(seed, places);

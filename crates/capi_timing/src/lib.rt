@@ -42,8 +42,7 @@ fn job_numbers(all: [Job; 12]) -> [u64; 12]
 }
 
 // The checks of a chain, 8, 5 and 7, and its hyperperiod.
-#[unsafe(no_mangle)]
-pub extern "C" fn mo_check(tasks: &[u64], places: usize, gap: u64, hyperperiod: &mut u64) -> u64
+pub fn mo_check(tasks: &[u64], places: usize, gap: u64, hyperperiod: &mut u64) -> u64
     ensures { GivesCheck (chain_from tasks.now places gap) result hyperperiod.new }
 {
     let n = capi_chain::flat_length(tasks.len(), places);
@@ -61,8 +60,7 @@ pub extern "C" fn mo_check(tasks: &[u64], places: usize, gap: u64, hyperperiod: 
 }
 
 // Warm-up: W1 to Wn, and zeros past them, the warm-up tick x0 and the hyperperiod.
-#[unsafe(no_mangle)]
-pub extern "C" fn mo_warm_up(
+pub fn mo_warm_up(
     tasks: &[u64],
     places: usize,
     gap: u64,
@@ -84,8 +82,7 @@ pub extern "C" fn mo_warm_up(
 }
 
 // Walking: the delay of a press at tick t.
-#[unsafe(no_mangle)]
-pub extern "C" fn mo_delay(tasks: &[u64], places: usize, gap: u64, t: u64, delay: &mut u64) -> u64
+pub fn mo_delay(tasks: &[u64], places: usize, gap: u64, t: u64, delay: &mut u64) -> u64
     ensures { GivesDelay (chain_from tasks.now places gap) t result delay.new }
 {
     let n = capi_chain::flat_length(tasks.len(), places);
@@ -93,8 +90,7 @@ pub extern "C" fn mo_delay(tasks: &[u64], places: usize, gap: u64, t: u64, delay
 }
 
 // Ageing: the age at tick z.
-#[unsafe(no_mangle)]
-pub extern "C" fn mo_age(tasks: &[u64], places: usize, gap: u64, z: u64, age: &mut u64) -> u64
+pub fn mo_age(tasks: &[u64], places: usize, gap: u64, z: u64, age: &mut u64) -> u64
     ensures { GivesAge (chain_from tasks.now places gap) z result age.new }
 {
     let n = capi_chain::flat_length(tasks.len(), places);

@@ -6,8 +6,7 @@ ghost use Rattle.capi_windows.specs.Calls.{GivesWindows};
 use windows::Windows;
 
 // The largest number of misses of b in k successive jobs of the first place, and the earliest starting job whose window has as many.
-#[unsafe(no_mangle)]
-pub extern "C" fn mo_windows(
+pub fn mo_windows(
     tasks: &[u64],
     places: usize,
     gap: u64,

@@ -141,8 +141,7 @@ pub fn read_at(starts: &[u64], latencies: &[u64], g: usize, h: u64, t: u64) -> R
 }
 
 // Reading for C, one number: the delay, which lies below 2^32, or 2^32 + the refusal's number.
-#[unsafe(no_mangle)]
-pub extern "C" fn mo_read_table(starts: &[u64], latencies: &[u64], g: u64, h: u64, t: u64) -> u64
+pub fn mo_read_table(starts: &[u64], latencies: &[u64], g: u64, h: u64, t: u64) -> u64
     ensures { GivesWord starts.now latencies.now g h t result }
 {
     let r = read_at(starts, latencies, g as usize, h, t);

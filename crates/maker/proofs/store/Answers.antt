@@ -1,0 +1,7 @@
+use mathlib.Core.Path.{sym}
+use lib.Seq.{set_out}
+use borrow.Author.Rules.{rules}
+use Rattle.maker.proofs.store.Goals as goal
+
+pub returns-else-i-list : goal.returns-else-i-list
+returns-else-i-list c = sym (set_out _ _ _ c.if-i-list.false)
