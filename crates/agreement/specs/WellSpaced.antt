@@ -3,7 +3,7 @@ use Prim.Native.Nat.{ℕ, zero, suc, ◌+◌, ◌-◌, ◌/◌, ◌≤◌, ◌<�
 use Rattle.std.proofs.Common.{mul-le-mul_right, ◌∙◌}
 use native.Mathlib.Omega.{arith}
 use Rattle.std.specs.Prelude.{◌≡◌, Bool}
-use Rattle.std.proofs.Math.Path.{refl}
+use Rattle.std.proofs.Math.Path.{refl, sym, subst}
 use Rattle.std.proofs.Math.Bool.{true, false}
 use mathlib.Core.List.{List, ◌∷◌, map}
 use Rattle.task.specs.declared.Place.{Place}
@@ -34,7 +34,7 @@ module _ (w readAt : ℕ → ℕ) (W : ℕ) (rise : (i j : ℕ) → i < j → re
       rw z (rise x s l, fits x h, omega (arith, after s, rise x s l), tt)
   spaced (suc n) s x h l e =
       let z : s + suc n ≡ suc s + n = omega arith in
-      rw z (go (ends_later w readAt s) refl (spaced n (suc s) s (omega arith) (omega arith) refl) (λ k. spaced n (suc s) x h (omega arith) (k ∙ e)))
+      subst (λ (k : ℕ). Spaced (readAt k) (anchor_at w readAt x ∷ map (anchor_at w readAt) (select (ends_later w readAt) s (suc n)))) (sym z) (go (ends_later w readAt s) refl (spaced n (suc s) s (omega arith) (omega arith) refl) (λ k. spaced n (suc s) x h (omega arith) (k ∙ e)))
     where
       go : (t : Bool) → ends_later w readAt s ≡ t
           → Spaced (readAt (suc s + n)) (anchor_at w readAt s ∷ map (anchor_at w readAt) (select (ends_later w readAt) (suc s) n))
@@ -46,7 +46,7 @@ module _ (w readAt : ℕ → ℕ) (W : ℕ) (rise : (i j : ℕ) → i < j → re
 module _ (l : List Place) (ok : Sound l) where
   pub canonical_spaced : Spaced (read_of (at l 0) (warm_at l 0) + hyper_of l) (first_anchor l ok ∷ other_anchors l ok)
   canonical_spaced =
-      rw again at
+      subst (λ (e : ℕ). Spaced e (first_anchor l ok ∷ other_anchors l ok)) again
       (spaced (end_walk l) (read_of (at l 0)) (warm_at l 0) (read_less (at l 0) (ok.each 0 ok.some).period_pos) (end_after l ok) (latency_fits l ok)
       (hyper_of l / (at l 0).period - 1) (suc (warm_at l 0)) (warm_at l 0) (omega arith) (omega arith) refl)
     where

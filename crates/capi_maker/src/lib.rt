@@ -15,8 +15,7 @@ fn numbers_of(f: Figures) -> [u64; 4]
 }
 
 // Makes the table of a chain cut at place p, p counted from 1.
-#[unsafe(no_mangle)]
-pub extern "C" fn mo_make_table(
+pub fn mo_make_table(
     tasks: &[u64],
     places: usize,
     gap: u64,

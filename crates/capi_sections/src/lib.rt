@@ -6,8 +6,7 @@ ghost use Rattle.capi_sections.specs.Calls.{GivesSections};
 use sections::Sections;
 
 // The greatest latency of each section of a chain that is cut, with zeros past them, the number of sections, and the sum with one gap for each cut.
-#[unsafe(no_mangle)]
-pub extern "C" fn mo_sections(
+pub fn mo_sections(
     tasks: &[u64],
     places: usize,
     gap: u64,

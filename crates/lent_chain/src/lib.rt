@@ -1,6 +1,5 @@
 // Making a table of a chain whose tasks are lent as a list of task records, with the gap of its links.
 // `make_table_of` takes any list, any gap, any place and any two lists.
-// The functions with a `&[Task]` are proved by hand, since the borrow checker does not cover a lent list of structs; they are few and small, and the others take values.
 #![tactic(auto)]
 ghost use Rattle.std.specs.Prelude.{◌≡◌, ◌<◌, min, length, get_or};
 ghost use Rattle.chain.specs.Chains.{zero_task};
@@ -77,7 +76,7 @@ pub fn make_table_of(
     starts: &mut [u64],
     latencies: &mut [u64],
 ) -> Made
-    ensures { Makes (chain_of_list gap tasks.now) p starts.old latencies.old starts.new latencies.new result × (tasks.now ≡ tasks.now) }
+    ensures { Makes (chain_of_list gap tasks.now) p starts.old latencies.old starts.new latencies.new result }
 {
     let c = chain_of(tasks, gap);
     maker::make_table(c, p, starts, latencies)
