@@ -1,5 +1,4 @@
 // A program that lends the two tasks of document 01's chain A as a list of records, and makes its table, cut at place 1: A1, A2 and A3.
-// `made_of` is proved by hand, as it lends a list of structs; `main` is covered.
 #![tactic(auto)]
 ghost use Rattle.std.specs.Prelude.{◌≡◌, [], ◌∷◌};
 ghost use Rattle.maker.specs.Making.{told, Makes};
@@ -41,11 +40,12 @@ fn main() {
     let mut starts = [7u64; 3];
     let mut latencies = [9u64; 3];
     let m = made_of(sample, filter, 1, &mut starts, &mut latencies);
-    check::expect(walked_of(m) == 3);
-    check::expect(starts[0] == 0);
-    check::expect(starts[1] == 8);
-    check::expect(starts[2] == 7);
-    check::expect(latencies[0] == 18);
-    check::expect(latencies[1] == 16);
-    check::expect(latencies[2] == 9);
+    let walked = walked_of(m);
+    prove!(walked == 3);
+    prove!(starts[0] == 0);
+    prove!(starts[1] == 8);
+    prove!(starts[2] == 7);
+    prove!(latencies[0] == 18);
+    prove!(latencies[1] == 16);
+    prove!(latencies[2] == 9);
 }
