@@ -1,0 +1,10 @@
+use mathlib.Core.Path.{◌∙◌}
+use Rattle.schedule_checks.specs.ChosenChain.{choice_refused, choice_made}
+use borrow.Author.Rules.{rules}
+use Rattle.from_schedule.proofs.delay_of.Goals as goal
+
+pub returns-then-r-ne0 : goal.returns-then-r-ne0
+returns-then-r-ne0 c = choice_refused _ _ _ _ _ c.chain_number-c.ensures c.if-r-ne0.true
+
+pub returns : goal.returns
+returns c = c.delay.ensures ∙ choice_made _ _ _ _ _ c.chain_number-c.ensures c.if-r-ne0.false
