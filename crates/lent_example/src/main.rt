@@ -40,12 +40,11 @@ fn main() {
     let mut starts = [7u64; 3];
     let mut latencies = [9u64; 3];
     let m = made_of(sample, filter, 1, &mut starts, &mut latencies);
-    let walked = walked_of(m);
-    prove!(walked == 3);
-    prove!(starts[0] == 0);
-    prove!(starts[1] == 8);
-    prove!(starts[2] == 7);
-    prove!(latencies[0] == 18);
-    prove!(latencies[1] == 16);
-    prove!(latencies[2] == 9);
+    check::expect(walked_of(m) == 3);
+    check::expect(starts[0] == 0);
+    check::expect(starts[1] == 8);
+    check::expect(starts[2] == 7);
+    check::expect(latencies[0] == 18);
+    check::expect(latencies[1] == 16);
+    check::expect(latencies[2] == 9);
 }

@@ -2,6 +2,8 @@ use Prim.Native.Nat.{ℕ}
 use mathlib.Core.Path.{◌≡◌, ap, ◌∙◌}
 use mathlib.Core.List.{List, [], ◌∷◌}
 use lib.ListN.{get_or}
+use borrow.Author.Rules.{rules}
+use borrow.Author.Tests.{eq-eqb}
 use Rattle.maker.specs.declared.Made.{Made}
 use Rattle.maker.specs.Making.{told}
 use Rattle.lent_example.proofs.ChainA.{whole_a, leaves_of_a}
@@ -12,23 +14,23 @@ use Rattle.lent_example.proofs.main.Goals.{After-made_of-m}
 table : (c : After-made_of-m) → (c.made_of-m.result ≡ whole_a) × (c.made_of-m.new.starts ≡ 0 ∷ 8 ∷ 7 ∷ []) × (c.made_of-m.new.latencies ≡ 18 ∷ 16 ∷ 9 ∷ [])
 table c = leaves_of_a _ _ _ c.made_of-m.ensures
 
-pub prove-unreachable-requires : goal.prove-unreachable-requires
-prove-unreachable-requires c = c.if-prove.true (c.walked_of-walked.ensures ∙ ap (λ (m : Made). (told m).walked) (table (goal.at.prove-unreachable-requires c).After-made_of-m).0)
+pub expect-requires : goal.expect-requires
+expect-requires c = eq-eqb _ _ (c.walked_of.ensures ∙ ap (λ (r : Made). (told r).walked) (table (goal.at.expect-requires c).After-made_of-m).0)
 
-pub prove-unreachable-requires-2 : goal.prove-unreachable-requires-2
-prove-unreachable-requires-2 c = c.if-prove-2.true (ap (λ (l : List ℕ). get_or l 0 0) (table (goal.at.prove-unreachable-requires-2 c).After-made_of-m).1)
+pub expect-requires-2 : goal.expect-requires-2
+expect-requires-2 c = eq-eqb _ _ (ap (λ (l : List ℕ). get_or l 0 0) (table (goal.at.expect-requires-2 c).After-made_of-m).1)
 
-pub prove-unreachable-requires-3 : goal.prove-unreachable-requires-3
-prove-unreachable-requires-3 c = c.if-prove-3.true (ap (λ (l : List ℕ). get_or l 1 0) (table (goal.at.prove-unreachable-requires-3 c).After-made_of-m).1)
+pub expect-requires-3 : goal.expect-requires-3
+expect-requires-3 c = eq-eqb _ _ (ap (λ (l : List ℕ). get_or l 1 0) (table (goal.at.expect-requires-3 c).After-made_of-m).1)
 
-pub prove-unreachable-requires-4 : goal.prove-unreachable-requires-4
-prove-unreachable-requires-4 c = c.if-prove-4.true (ap (λ (l : List ℕ). get_or l 2 0) (table (goal.at.prove-unreachable-requires-4 c).After-made_of-m).1)
+pub expect-requires-4 : goal.expect-requires-4
+expect-requires-4 c = eq-eqb _ _ (ap (λ (l : List ℕ). get_or l 2 0) (table (goal.at.expect-requires-4 c).After-made_of-m).1)
 
-pub prove-unreachable-requires-5 : goal.prove-unreachable-requires-5
-prove-unreachable-requires-5 c = c.if-prove-5.true (ap (λ (l : List ℕ). get_or l 0 0) (table (goal.at.prove-unreachable-requires-5 c).After-made_of-m).2)
+pub expect-requires-5 : goal.expect-requires-5
+expect-requires-5 c = eq-eqb _ _ (ap (λ (l : List ℕ). get_or l 0 0) (table (goal.at.expect-requires-5 c).After-made_of-m).2)
 
-pub prove-unreachable-requires-6 : goal.prove-unreachable-requires-6
-prove-unreachable-requires-6 c = c.if-prove-6.true (ap (λ (l : List ℕ). get_or l 1 0) (table (goal.at.prove-unreachable-requires-6 c).After-made_of-m).2)
+pub expect-requires-6 : goal.expect-requires-6
+expect-requires-6 c = eq-eqb _ _ (ap (λ (l : List ℕ). get_or l 1 0) (table (goal.at.expect-requires-6 c).After-made_of-m).2)
 
-pub prove-unreachable-requires-7 : goal.prove-unreachable-requires-7
-prove-unreachable-requires-7 c = c.if-prove-7.true (ap (λ (l : List ℕ). get_or l 2 0) (table (goal.at.prove-unreachable-requires-7 c).After-made_of-m).2)
+pub expect-requires-7 : goal.expect-requires-7
+expect-requires-7 c = eq-eqb _ _ (ap (λ (l : List ℕ). get_or l 2 0) (table (goal.at.expect-requires-7 c).After-made_of-m).2)
