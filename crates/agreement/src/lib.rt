@@ -1,6 +1,7 @@
 // The third demand at the level of the calls. Each function makes tables, calls what the demand compares with them, and answers what each call gave.
 // Its contract says by equations what that is, for any chain, places, ticks and lists, and beside it that the values agree wherever the table is completed.
 #![tactic(auto)]
+
 ghost use Rattle.std.specs.Prelude.{◌≡◌, get_or};
 ghost use Rattle.maker.specs.Making.{told};
 ghost use Rattle.agreement.specs.Answers.{last_before, ReadAndWalked, CutTwice, NotExceeded, ReachedThere};

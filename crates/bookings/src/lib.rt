@@ -1,6 +1,7 @@
 // Two chains side by side (order 1 of document 02): when a press is booked by each, how far the two bookings lie apart, and the greatest such difference.
 // Its calls `pair` and `pair_on` take any values: two chains, or two flat lists T, D, F, T, D, F, .. of tasks, one for each place, which are lent and not copied, with a gap each.
 #![tactic(auto)]
+
 ghost use Rattle.std.specs.Prelude.{◌≡◌, ◌-◌, ◌≤◌, max, min};
 ghost use Rattle.chain.specs.Checks.{Sound};
 ghost use Rattle.chain.specs.Flat.{given_in, tasks_in};

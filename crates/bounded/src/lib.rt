@@ -1,6 +1,7 @@
 // A schedule with a bound for each of its chains, by value (order 10 of document 02): the same with zeros past its counts, and whether two are the same.
 // Every function takes any values, but `same_numbers`, whose lists are arrays of one length.
 #![tactic(auto)]
+
 ghost use Rattle.std.specs.Prelude.{◌≡◌, map, ◌<◌, eqb, length, take};
 ghost use Rattle.schedule.specs.Schedules.{padded, zero_numbered, empty_route};
 ghost use Rattle.bounded.specs.Bounded.{cleared_route, cleared_schedule, cleared, zero_bounded, pairwise, same_task, same_route, same_schedule, same_bounded};

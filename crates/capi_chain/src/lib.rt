@@ -1,6 +1,7 @@
 // A chain as it is given from C and from hosts: the flat list T, D, F, T, D, F, .. of its tasks, the number of places, and the gap.
 // No chain is made of it: the calls take the front of the list that holds the tasks at the places.
 #![tactic(auto)]
+
 ghost use Rattle.std.specs.Prelude.{◌≡◌, ◌*◌};
 ghost use Rattle.capi_chain.specs.FlatChain.{places_of};
 

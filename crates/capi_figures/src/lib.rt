@@ -1,6 +1,7 @@
 // The calls for C and for hosts on a table's figures: plain numbers and lists of numbers. include/meshorchard.h declares them and says how to use them.
 // A call answers 0, or its refusal as one number: the refusal's number and 256 times its place. The figures go to the numbers that are lent to it.
 #![tactic(auto)]
+
 ghost use Rattle.std.specs.Prelude.{◌≡◌, [], ◌∷◌};
 ghost use Rattle.figures.specs.Figures.{low_of, throughput_of, exceedance_of};
 ghost use Rattle.capi_figures.specs.Calls.{GivesGreatest, low_numbers, GivesMean, throughput_numbers, exceedance_numbers};
@@ -8,13 +9,7 @@ ghost use Rattle.capi_figures.specs.Calls.{GivesGreatest, low_numbers, GivesMean
 use figures::{Exceedance, Greatest, Low, Mean, Throughput};
 
 // The greatest latency.
-pub fn mo_greatest(
-    starts: &[u64],
-    latencies: &[u64],
-    g: u64,
-    h: u64,
-    latency: &mut u64,
-) -> u64
+pub fn mo_greatest(starts: &[u64], latencies: &[u64], g: u64, h: u64, latency: &mut u64) -> u64
     ensures { GivesGreatest starts.now latencies.now g h result latency.new }
 {
     let a = figures::greatest_of(starts, latencies, g as usize, h);

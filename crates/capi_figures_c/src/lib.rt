@@ -1,5 +1,6 @@
 // The exports of `capi_figures` for C: each calls the function of its name there, with the same clauses. include/meshorchard.h declares them.
 #![tactic(auto)]
+
 ghost use Rattle.std.specs.Prelude.{◌≡◌, [], ◌∷◌};
 ghost use Rattle.figures.specs.Figures.{low_of, throughput_of, exceedance_of};
 ghost use Rattle.capi_figures.specs.Calls.{GivesGreatest, low_numbers, GivesMean, throughput_numbers, exceedance_numbers};

@@ -1,6 +1,7 @@
 // Schedule files for C and for hosts: bytes, plain numbers and lists of numbers. include/meshorchard.h declares the calls and says how to use them.
 // A schedule is given and got as the lists of `capi_schedule`.
 #![tactic(auto)]
+
 ghost use Rattle.file_reader.specs.Reading.{read_file};
 ghost use Rattle.capi_schedule.specs.FlatSchedule.{schedule_from};
 ghost use Rattle.capi_file.specs.Calls.{GivesSchedule, GivesFile, GivesChain};

@@ -1,5 +1,6 @@
 // The exports of `capi_file` for C: each calls the function of its name there, with the same clauses. include/meshorchard.h declares them.
 #![tactic(auto)]
+
 ghost use Rattle.file_reader.specs.Reading.{read_file};
 ghost use Rattle.capi_schedule.specs.FlatSchedule.{schedule_from};
 ghost use Rattle.capi_file.specs.Calls.{GivesSchedule, GivesFile, GivesChain};

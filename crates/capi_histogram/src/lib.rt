@@ -1,5 +1,6 @@
 // How often each delay of a table occurs, for C and for hosts: plain numbers and lists of numbers. include/meshorchard.h declares the call and says how to use it.
 #![tactic(auto)]
+
 ghost use Rattle.capi_histogram.specs.Calls.{GivesHistogram};
 
 use histogram::Histogram;

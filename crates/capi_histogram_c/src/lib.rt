@@ -1,5 +1,6 @@
 // The exports of `capi_histogram` for C: each calls the function of its name there, with the same clauses. include/meshorchard.h declares them.
 #![tactic(auto)]
+
 ghost use Rattle.capi_histogram.specs.Calls.{GivesHistogram};
 
 // Entry i of `counts` gets the ticks with a delay from i × width up to below (i + 1) × width, `rest` those beyond the list.

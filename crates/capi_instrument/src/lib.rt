@@ -1,6 +1,7 @@
 // The instrument's state and its calls (order 10 of document 02) for C and for hosts: structs by value. include/meshorchard.h declares them and says how to use them.
 // A schedule with bounds is a struct; `mo_bounded_schedule` makes one of the lists that mo_read_file gives.
 #![tactic(auto)]
+
 ghost use Rattle.std.specs.Prelude.{◌≡◌};
 ghost use Rattle.capi_schedule.specs.FlatSchedule.{schedule_from};
 ghost use Rattle.bounded.specs.Bounded.{cleared};

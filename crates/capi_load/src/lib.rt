@@ -1,5 +1,6 @@
 // A made-up chain for C and for hosts, as plain numbers. include/meshorchard.h declares the call and says how to use it.
 #![tactic(auto)]
+
 ghost use Rattle.capi_load.specs.Calls.{GivesLoad};
 
 use load::Load;

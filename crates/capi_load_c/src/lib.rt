@@ -1,5 +1,6 @@
 // The exports of `capi_load` for C: each calls the function of its name there, with the same clauses. include/meshorchard.h declares them.
 #![tactic(auto)]
+
 ghost use Rattle.capi_load.specs.Calls.{GivesLoad};
 
 // T, D, F of each place of the chain that a seed and a number of places make, with zeros past them.

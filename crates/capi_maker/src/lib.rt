@@ -1,5 +1,6 @@
 // Making a table, for C and for hosts: plain numbers and lists of numbers. include/meshorchard.h declares it and says how to use it.
 #![tactic(auto)]
+
 ghost use Rattle.std.specs.Prelude.{◌≡◌, ◌*◌};
 ghost use Rattle.capi_chain.specs.FlatChain.{chain_from};
 ghost use Rattle.capi_maker.specs.Calls.{figure_numbers, GivesTable};

@@ -1,6 +1,7 @@
 // The smallest phase that keeps a bound (order 9 of document 02) for C and for hosts: plain numbers and lists of numbers. include/meshorchard.h declares the call and says how to use it.
 // A schedule is given as the lists of `capi_schedule`.
 #![tactic(auto)]
+
 ghost use Rattle.capi_schedule.specs.FlatSchedule.{schedule_from};
 ghost use Rattle.capi_phase.specs.Calls.{GivesPhase};
 

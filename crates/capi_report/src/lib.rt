@@ -1,5 +1,6 @@
 // The report of a schedule file for C and for hosts. include/meshorchard.h declares the call and says how to use it.
 #![tactic(auto)]
+
 ghost use Rattle.report.specs.Report.{Reports};
 
 // Writes the report of a schedule file's bytes as text, and answers its length. The lent bytes hold the first bytes of it that fit.

@@ -2,6 +2,7 @@
 // `tasks` is the flat list number, T, D, F, number, T, D, F, .. with its count; `chains` has the task numbers of chain c, c from 0, from entry 12 c on;
 // `places` has the number of places of each chain, with the count of chains. Every call here takes any lists and any numbers.
 #![tactic(auto)]
+
 ghost use Rattle.std.specs.Prelude.{◌≡◌, ◌+◌, ◌*◌, ◌≤◌, ◌<◌};
 ghost use Rattle.capi_schedule.specs.FlatSchedule.{numbered_at, tasks_from, count_from, held_from, places_from, route_from, routes_from, schedule_from, flat_tasks, flat_routes, route_counts};
 

@@ -1,5 +1,6 @@
 // Sections of a chain for C and for hosts: plain numbers and lists of numbers. include/meshorchard.h declares the call and says how to use it.
 #![tactic(auto)]
+
 ghost use Rattle.capi_chain.specs.FlatChain.{chain_from};
 ghost use Rattle.capi_sections.specs.Calls.{GivesSections};
 

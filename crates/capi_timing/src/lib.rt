@@ -1,6 +1,7 @@
 // The calls for C and for hosts: plain numbers and lists of numbers. include/meshorchard.h declares them and says how to use them.
 // A call answers 0, or its refusal as one number: the refusal's number and 256 times its place. What it gives else goes to the numbers that are lent to it.
 #![tactic(auto)]
+
 ghost use Rattle.std.specs.Prelude.{◌≡◌, map, ◌+◌, ◌*◌, ◌<◌};
 ghost use Rattle.capi_chain.specs.FlatChain.{chain_from};
 ghost use Rattle.timing.specs.Answers.{warm_up_of};

@@ -1,5 +1,6 @@
 // The exports of `capi_timing` for C: each calls the function of its name there, with the same clauses. include/meshorchard.h declares them.
 #![tactic(auto)]
+
 ghost use Rattle.capi_chain.specs.FlatChain.{chain_from};
 ghost use Rattle.timing.specs.Answers.{warm_up_of};
 ghost use Rattle.capi_timing.specs.Calls.{GivesCheck, GivesDelay, GivesAge, GivesWarmUp};

@@ -1,5 +1,6 @@
 // The exports of `capi_windows` for C: each calls the function of its name there, with the same clauses. include/meshorchard.h declares them.
 #![tactic(auto)]
+
 ghost use Rattle.capi_chain.specs.FlatChain.{chain_from};
 ghost use Rattle.capi_windows.specs.Calls.{GivesWindows};
 

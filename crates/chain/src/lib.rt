@@ -2,6 +2,7 @@
 // A chain is a value; what walks it takes its tasks as a flat list of numbers, which is lent and not copied, and the gap of its links. One or two numbers left at the end of such a list are no task.
 // `check` and `check_on` are entry points: they take any chain, any list and any gap. The ways are for the crates above, on lists that passed 8 and 5; they count places from 0.
 #![tactic(auto)]
+
 ghost use Rattle.std.specs.Prelude.{◌≡◌, ◌+◌, ◌*◌, ◌-◌, ◌≤◌, ◌<◌, length, get_or};
 ghost use Rattle.task.specs.Jobs.{read_of, write_of};
 ghost use Rattle.chain.specs.Chains.{zero_task, at, forward_by, backward_by, job_of};

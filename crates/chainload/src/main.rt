@@ -6,6 +6,7 @@
 // Which bytes answer the words, and whether they are the file or a line, is proved (`load_file::answer_to`), also that they fit. A word of more than 20 bytes comes as an empty one; neither is a number.
 // Not proved, since no contract can say it: that these are the words of the command line, and that a file goes to standard output and a line to standard error. tests/load.py looks at that.
 #![tactic(auto)]
+
 ghost use Rattle.std.specs.Prelude.{◌≤◌, length};
 
 use std::env::{Env, FillError};

@@ -5,6 +5,7 @@
 // What text belongs to the bytes read is proved (`report::report`), and that the 92,000 bytes lent to it hold every text.
 // Not proved, since no contract can say it: that the system's read gives the bytes of standard input, and that its write puts these bytes out.
 #![tactic(auto)]
+
 ghost use Rattle.io.specs.Counts.{IsPrefixLen};
 
 use std::io;

@@ -1,5 +1,6 @@
 // A word of at most 20 decimal digits as a number of 64 bits. `number_of` takes any bytes.
 #![tactic(auto)]
+
 ghost use Rattle.std.specs.Prelude.{◌≡◌};
 ghost use Rattle.decimal.specs.Numbers.{number_of};
 

@@ -1,5 +1,6 @@
 // The greatest common divisor of two periods by Euclid's rule, and the least common multiple built upon it.
 #![tactic(auto)]
+
 ghost use Rattle.std.specs.Prelude.{◌≡◌, ◌*◌, ◌≤◌, ◌<◌};
 ghost use Rattle.euclid.specs.Divisor.{gcd_of, lcm_of};
 

@@ -1,5 +1,6 @@
 // The figures of a table: greatest latency, low, mean, throughput and longest exceedance.
 #![tactic(auto)]
+
 ghost use Rattle.std.specs.Prelude.{◌≡◌, ◌-◌, ◌*◌, ◌≤◌, ◌<◌, min, max, length, get_or};
 ghost use Rattle.table.specs.Anchors.{anchors};
 ghost use Rattle.table.specs.WellFormed.{hyper_limit, latency_limit, next_start, WellFormed};

@@ -1,6 +1,7 @@
 // Reading a schedule file: any bytes are accepted whole or refused at the record where the first fault stands.
 // `read_file` is the entry point; the other functions judge or read one record.
 #![tactic(auto)]
+
 ghost use Rattle.std.specs.Prelude.{◌≡◌, ◌+◌, ◌*◌, ◌≤◌, ◌<◌, length, take};
 ghost use Rattle.schedule.specs.Schedules.{route_of};
 ghost use Rattle.file_reader.specs.Reading.{length_field, task_field, last_of, all_known, chain_field, chain_entries, task_record, chain_record, end_record, gap_record, record_of, refused_file, read_file};

@@ -1,6 +1,7 @@
 // Writing a schedule file: any schedule is refused or written whole into lent bytes.
 // `write_file` is the entry point; the other functions judge a schedule or store one part of its file.
 #![tactic(auto)]
+
 ghost use Rattle.std.specs.Prelude.{◌≡◌, true, ◌++◌, map, ◌+◌, ◌*◌, ◌≤◌, ◌<◌, length, take};
 ghost use Rattle.little_endian.specs.LittleEndian.{bytes_of};
 ghost use Rattle.std.proofs.lemmas.List.Edits.{sets};

@@ -1,6 +1,7 @@
 // Every analysis from a schedule (order 1 of document 02): it takes a chain number, counted from 1, and answers as the analysis of that chain does.
 // Each call takes any schedule and any numbers. Its refusals are 8, 5 and 6 of the schedule, 16 of the chain number, then the chain's own, then the call's.
 #![tactic(auto)]
+
 ghost use Rattle.std.specs.Prelude.{◌≡◌};
 ghost use Rattle.from_schedule.specs.Answers.{warm_up_from, delay_from, age_from, MakesFrom, windows_from, bookings_from, sections_from};
 

@@ -2,6 +2,7 @@
 // An anchor's delays fall by one from its latency, so they are a range. Each range changes four differences of neighbouring entries, however many entries it covers; the sums of
 // the differences are then the entries. So a histogram takes two passes over the anchors, of which one judges the table, and two over the list, and never a walk over ticks.
 #![tactic(auto)]
+
 ghost use Rattle.std.specs.Prelude.{◌≡◌, ◌+◌, ◌%◌, ◌≤◌, length, replicate, slice_index};
 ghost use Rattle.ranges.specs.Entries.{entries, sum};
 ghost use Rattle.table.specs.Anchors.{anchors};

@@ -2,6 +2,7 @@
 // `make_state`, `ask` and `commit` take any values, also a state that no list of calls leaves. What a caller names gets zeros past its counts before it is judged, compared or kept, so no entry past a count of it is ever seen
 // again.
 #![tactic(auto)]
+
 ghost use Rattle.std.specs.Prelude.{◌≡◌};
 ghost use Rattle.bounded.specs.Bounded.{cleared};
 ghost use Rattle.instrument.specs.Instrument.{no_proposal, runs, proposes, zero_state, make_of, ask_of, commit_of, commit_refused};

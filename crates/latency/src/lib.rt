@@ -2,6 +2,7 @@
 // All functions are for the crates above. `longest_place` takes any list of up to twelve tasks and counts places from 1, as document 01 does; the others take lists that the checks accepted and count
 // the place p from 0.
 #![tactic(auto)]
+
 ghost use Rattle.std.specs.Prelude.{◌≡◌, length, ◌-◌, ◌≤◌, ◌<◌, max};
 ghost use Rattle.chain.specs.Checks.{Sound};
 ghost use Rattle.chain.specs.Hyperperiod.{hyper_of};

@@ -1,6 +1,7 @@
 // Making a table of a chain whose tasks are lent as a list of task records, with the gap of its links.
 // `make_table_of` takes any list, any gap, any place and any two lists.
 #![tactic(auto)]
+
 ghost use Rattle.std.specs.Prelude.{◌≡◌, ◌<◌, min, length, get_or};
 ghost use Rattle.chain.specs.Chains.{zero_task};
 ghost use Rattle.maker.specs.Making.{Makes};

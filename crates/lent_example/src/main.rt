@@ -1,5 +1,6 @@
 // A program that lends the two tasks of document 01's chain A as a list of records, and makes its table, cut at place 1: A1, A2 and A3.
 #![tactic(auto)]
+
 ghost use Rattle.std.specs.Prelude.{◌≡◌, [], ◌∷◌};
 ghost use Rattle.maker.specs.Making.{told, Makes};
 ghost use Rattle.lent_chain.specs.LentList.{chain_of_list};

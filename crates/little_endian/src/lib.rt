@@ -1,6 +1,7 @@
 // Numbers in lists of bytes, little-endian: one function reads and one writes, at any width up to four bytes.
 // What both require is proved by the crates that call them.
 #![tactic(auto)]
+
 ghost use Rattle.std.specs.Prelude.{◌≡◌, ◌+◌, ◌≤◌, ◌<◌, length};
 ghost use Rattle.std.proofs.lemmas.List.Edits.{sets};
 ghost use Rattle.little_endian.specs.LittleEndian.{number_at, bytes_of};

@@ -1,6 +1,7 @@
 // Order 8 of document 02: a made-up chain that others can repeat, from a seed and a number of places.
 // `make_load` is the entry point: it takes any seed and any number of places. `next_draw` takes any state; the other functions make one part of a chain each.
 #![tactic(auto)]
+
 ghost use Rattle.std.specs.Prelude.{◌≡◌, ◌≤◌};
 ghost use Rattle.load.specs.Load.{draw_of, period_of, drawn_task, array_from, no_load, load_of};
 

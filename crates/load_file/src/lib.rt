@@ -1,6 +1,7 @@
 // What the program `chainload` says to its words: the schedule file of a made-up chain, or the one line of what is wrong with the words.
 // `answer_to` takes any number of words and any bytes; the other functions make one part of the file or of the answer.
 #![tactic(auto)]
+
 ghost use Rattle.std.specs.Prelude.{◌≡◌, ◌≤◌, length, take};
 ghost use Rattle.schedule.specs.Schedules.{padded, zero_numbered};
 ghost use Rattle.load_file.specs.LoadFile.{numbered_from, numbers_to, alone_of};

@@ -1,6 +1,7 @@
 // Making a table of anchors: one pass over the partitions of a hyperperiod, which writes the anchors into two lent lists.
 // `make_table` takes any chain, any place and any two lists; `make_table_on` any flat list of tasks and any gap.
 #![tactic(auto)]
+
 ghost use Rattle.std.specs.Prelude.{◌≡◌, set, ◌≤◌};
 ghost use Rattle.chain.specs.Flat.{given_in, tasks_in};
 ghost use Rattle.stepping.specs.Standing.{Reciprocals};

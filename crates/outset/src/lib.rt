@@ -1,5 +1,6 @@
 // What the step needs before its first turn, by division, once for each making: what stands for a division at each place, and the state at a job of the cut.
 #![tactic(auto)]
+
 ghost use Rattle.std.specs.Prelude.{◌≡◌, length, ◌+◌, ◌*◌, ◌≤◌, ◌<◌};
 ghost use Rattle.chain.specs.Checks.{Sound};
 ghost use Rattle.chain.specs.Flat.{tasks_in};

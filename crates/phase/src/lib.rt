@@ -5,6 +5,7 @@
 // periods of the chain's other tasks are tried, since after them the chain is the same at another time. A try begins where a partition above the bound is likely: from phase to phase those often stay where they
 // are, or move on by the same number of jobs each time. And no try works out a warm-up: every walk goes where all phases are warm.
 #![tactic(auto)]
+
 ghost use Rattle.std.specs.Prelude.{◌≡◌, length, take, get_or, ◌+◌, ◌-◌, ◌*◌, ◌/◌, ◌≤◌, ◌<◌};
 ghost use Rattle.chain.specs.Chains.{given_of, zero_task};
 ghost use Rattle.chain.specs.Hyperperiod.{hyper_of};

@@ -2,6 +2,7 @@
 // `judge` is the entry point: it takes any schedule with any bounds. The other functions are its steps.
 // All hyperperiods are looked at before any chain is walked, so that a schedule with a chain that 7 refuses costs no walk.
 #![tactic(auto)]
+
 ghost use Rattle.std.specs.Prelude.{◌≡◌, leb, length, ◌<◌};
 ghost use Rattle.chain.specs.declared.Verdict.TheVariants as verdict;
 ghost use Rattle.chain.specs.Chains.{tasks_of};

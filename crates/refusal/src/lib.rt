@@ -1,5 +1,6 @@
 // A refusal as document 01 has it: its number and a place. Every call that can refuse answers one of these.
 #![tactic(auto)]
+
 ghost use Rattle.std.specs.Prelude.{◌≡◌, ◌+◌, ◌*◌, ◌≤◌, ◌<◌};
 ghost use Rattle.refusal.specs.Refusals.{code_of};
 

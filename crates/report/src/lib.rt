@@ -1,6 +1,7 @@
 // The report of a schedule file: each chain's table and figures as text, or its refusal, under a line `chain N`; or the refusal of the file; in lent bytes.
 // `report` takes any bytes and any lent bytes; the text of a table and the line of a refusal are those of `table_text`.
 #![tactic(auto)]
+
 ghost use Rattle.std.specs.Prelude.{◌≡◌, ◌+◌, ◌≤◌, length};
 ghost use Rattle.text.specs.Text.{Puts};
 ghost use Rattle.table_text.specs.TableText.{longest_table};

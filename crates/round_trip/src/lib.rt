@@ -1,5 +1,6 @@
 // The two round trips of a schedule file: the theorems are in specs/RoundTrips, and these two calls go each round.
 #![tactic(auto)]
+
 ghost use Rattle.std.specs.Prelude.{◌≡◌};
 ghost use Rattle.round_trip.specs.RoundTrips.{Rewrites, Rereads};
 

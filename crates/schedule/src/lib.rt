@@ -1,6 +1,7 @@
 // A schedule by value: its tasks with their numbers, its chains as the task numbers at their places, their counts, and the gap of the chains' links.
 // `chain_of` takes any schedule and any route. `follows` takes any task, `numbers_of` and `at_most` any values; what `find` requires is proved by the crates that call it.
 #![tactic(auto)]
+
 ghost use Rattle.std.specs.Prelude.{◌≡◌, map, ◌+◌, ◌≤◌, ◌<◌, length, take};
 ghost use Rattle.schedule.specs.Schedules.{number_of, tasks_in, task_rule, position_of, least, chain_of};
 

@@ -1,6 +1,7 @@
 // The one judge of a schedule, and the one place where a chain is chosen by its number.
 // `fault_of` and `chain_number` take any schedule and any number; `chain_in` is for the crates above; the other functions make one check each.
 #![tactic(auto)]
+
 ghost use Rattle.std.specs.Prelude.{◌≡◌, true, map, ◌+◌, ◌≤◌, ◌<◌, length, take};
 ghost use Rattle.refusal.specs.Refusals.{refusal};
 ghost use Rattle.schedule.specs.Schedules.{places_of};

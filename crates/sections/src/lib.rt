@@ -1,6 +1,7 @@
 // Sections of a chain that is cut: the greatest latency of each, as a chain of its own, and their sum with one gap for each cut (order 6 of document 02).
 // `section_latencies` takes any chain and any cuts; `section_latencies_on` any flat list of tasks and any gap. A section is a part of the flat list, which is lent and not copied.
 #![tactic(auto)]
+
 ghost use Rattle.std.specs.Prelude.{◌≡◌, true, length, take, drop, ◌-◌, ◌≤◌, ◌<◌};
 ghost use Rattle.chain.specs.Flat.{given_in, tasks_in};
 ghost use Rattle.latency.specs.Latency.{greatest_latency};

@@ -1,6 +1,7 @@
 // The step from one partition to the following one, with no division and no remainder: each place's job moves on from where it was.
 // `reciprocals` has three numbers for each place, its period, and the factor and the shift that were made for it once; `state` has two, its job and its rest.
 #![tactic(auto)]
+
 ghost use Rattle.std.specs.Prelude.{◌≡◌, ◌+◌, ◌-◌, ◌≤◌, ◌<◌};
 ghost use Rattle.chain.specs.Flat.{tasks_in};
 ghost use Rattle.partition.specs.Partitions.{IsPartition};

@@ -1,5 +1,6 @@
 // Tables of anchors as two lists of numbers: well-formed, and reading at a tick.
 #![tactic(auto)]
+
 ghost use Rattle.std.specs.Prelude.{◌≡◌, ◌≤◌, length, get_or};
 ghost use Rattle.table.specs.Anchors.{anchors};
 ghost use Rattle.table.specs.WellFormed.{fitting, measured, spaced, well_formed};

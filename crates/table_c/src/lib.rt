@@ -1,5 +1,6 @@
 // The exports of `table` for C: each calls the function of its name there, with the same clauses. include/meshorchard.h declares them.
 #![tactic(auto)]
+
 ghost use Rattle.table.specs.Reading.{GivesWord};
 
 // Reading for C, one number: the delay, which lies below 2^32, or 2^32 + the refusal's number.

@@ -1,6 +1,7 @@
 // The text of a completed table, and the line of a refusal, in lent bytes. Each function writes a part of the text, from an offset on, and answers the offset after it.
 // They are for the crates above: an offset is at most 92,000, by which four tables end, and `put_table` takes a table as making completes it.
 #![tactic(auto)]
+
 ghost use Rattle.std.specs.Prelude.{◌≡◌, true, ◌+◌, ◌*◌, ◌≤◌, ◌<◌, length};
 ghost use Rattle.table.specs.Anchors.{anchors};
 ghost use Rattle.table.specs.WellFormed.{well_formed};

@@ -2,6 +2,7 @@
 // `within_limits` takes any task; what the other methods require is proved by the crates that call them.
 // A job number is never used as a tick: `Job` becomes `Tick` only by a place's read, write and gap, `Tick` becomes `Job` only by their inverses.
 #![tactic(auto)]
+
 ghost use Rattle.std.specs.Prelude.{◌≡◌, ◌+◌, ◌*◌, ◌≤◌, ◌<◌};
 ghost use Rattle.task.specs.Jobs.{read_of, write_of, readable_of, within_limits};
 ghost use Rattle.task.specs.Links.{earliest_from, earliest_after, latest_over, latest_by, forward_link, backward_link};

@@ -1,6 +1,7 @@
 // Lines of text in lent bytes: a word, numbers in plain decimal, LF. Each function stores from the offset `at` on and answers the offset after its text;
 // bytes past the end of the lent list are left out, so a text that is too long is cut. What the functions require, small offsets, is proved by the crates that call them.
 #![tactic(auto)]
+
 ghost use Rattle.std.specs.Prelude.{◌≡◌, [], ◌∷◌, ◌+◌, ◌≤◌, ◌<◌, length, set};
 ghost use Rattle.text.specs.Text.{decimal, line, blank, Puts};
 

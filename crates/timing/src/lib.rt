@@ -2,6 +2,7 @@
 // Its calls `warm_up`, `delay` and `age` take any values, and so do those on a flat list T, D, F, T, D, F, .. of tasks, one for each place, which is lent and not copied, and a gap.
 // `warm_jobs`, `warm_tick` and `tick_refusal` are for the crates above; the first two on lists that `chain::check_on` accepted.
 #![tactic(auto)]
+
 ghost use Rattle.std.specs.Prelude.{◌≡◌, ◌-◌, ◌≤◌, ◌<◌};
 ghost use Rattle.chain.specs.Checks.{Sound};
 ghost use Rattle.chain.specs.Flat.{given_in, tasks_in};

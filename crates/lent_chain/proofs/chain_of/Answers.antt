@@ -16,9 +16,9 @@ loop-i-preserved c =
       omega arith,
       l.invariant.1,
       c.with_task-c.ensures
-      ∙ ap (λ (x : Chain). with_task x l.i c.task_at-t.result) l.invariant.2
-      ∙ ap (with_task (copied c.args.gap l.i c.args.tasks.now) l.i) c.task_at-t.ensures
-      ∙ copied_next _ _ l.i (omega (arith, l.invariant.1)) (omega (arith, l.invariant.1)),
+          ∙ ap (λ (x : Chain). with_task x l.i c.task_at-t.result) l.invariant.2
+          ∙ ap (with_task (copied c.args.gap l.i c.args.tasks.now) l.i) c.task_at-t.ensures
+          ∙ copied_next _ _ l.i (omega (arith, l.invariant.1)) (omega (arith, l.invariant.1)),
     )
 
 pub returns : goal.returns
