@@ -23,7 +23,7 @@ use Rattle.table.specs.Reading as table
 use Rattle.table.specs.Figures.{greatest}
 use Rattle.figures.specs.declared.Greatest.TheVariants.{Latency}
 use Rattle.figures.specs.Figures.{greatest_of}
-use Rattle.partition.specs.CutFree.{canonical}
+use Rattle.partition.proofs.CutFree.{canonical}
 use Rattle.maker.specs.declared.Figures.{Figures}
 use Rattle.maker.specs.declared.Made.TheVariants.{Whole}
 use Rattle.maker.specs.Making.{starts_of, latencies_of, overlay, Makes}

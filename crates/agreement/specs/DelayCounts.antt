@@ -10,7 +10,7 @@ use Rattle.table.specs.BothWays.{well_formed_iff}
 use Rattle.table.specs.EveryTable.{first_start_holds}
 use Rattle.histogram.specs.declared.Histogram.{Histogram}
 use Rattle.histogram.specs.Histogram.{Gives}
-use Rattle.histogram.specs.EveryHyperperiod.{CountsDelays, every_hyperperiod}
+use Rattle.histogram.proofs.EveryHyperperiod.{CountsDelays, every_hyperperiod}
 use Rattle.maker.specs.declared.Figures.{Figures}
 use Rattle.maker.specs.declared.Made.{Made}
 use Rattle.maker.specs.declared.Made.TheVariants.{Whole}

@@ -14,7 +14,7 @@ use Rattle.timing.specs.WarmUp.{warm_at, warm_tick}
 use Rattle.timing.specs.Answers.{upper_tick}
 use Rattle.partition.specs.Partitions.{anchors_of}
 use Rattle.partition.specs.Selections.{range_length}
-use Rattle.partition.specs.FewAnchors.{few_anchors}
+use Rattle.partition.proofs.FewAnchors.{few_anchors}
 use Rattle.maker.specs.declared.Figures.{Figures}
 use Rattle.maker.specs.declared.Made.{Made}
 use Rattle.maker.specs.declared.Made.TheVariants.{Whole}

@@ -11,7 +11,7 @@ use Rattle.task.specs.declared.Latest.{Latest}
 use Rattle.task.specs.declared.Latest.TheVariants.{Of, Nothing}
 use Rattle.task.specs.Jobs.{read_of, write_of}
 use Rattle.task.specs.Links.{earliest_after, latest_by}
-use Rattle.task.specs.LinkLaws.{AtLeast, after_less, read_mono, latest_is}
+use Rattle.task.proofs.LinkLaws.{AtLeast, after_less, read_mono, latest_is}
 use Rattle.chain.specs.Chains.{at, last_place, on_latest, walk, back, job_of}
 use Rattle.chain.specs.Checks.{Sound}
 use Rattle.chain.specs.Hyperperiod.{hyper_of}
@@ -25,7 +25,7 @@ use Rattle.table.specs.Anchors.{first_start}
 use Rattle.table.specs.Reading as table
 use Rattle.table.specs.Figures.{greatest}
 use Rattle.table.specs.GreatestDelay.{GreatestFrom, greatest_delay}
-use Rattle.partition.specs.CutFree.{end_walk, canonical, write_less}
+use Rattle.partition.proofs.CutFree.{end_walk, canonical, write_less}
 use Rattle.agreement.specs.Jobs.{walk_warm, walk_next, walk_after, end_after, latency_fits, delay_read, read_warm}
 use Rattle.agreement.specs.ReadsAsWalk.{canonical_cons, table_walk}
 use Rattle.agreement.specs.WellSpaced.{read_less, canonical_formed}

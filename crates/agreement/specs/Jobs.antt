@@ -6,7 +6,7 @@ use Rattle.std.specs.Prelude.{◌≡◌, true, List}
 use Rattle.task.specs.declared.Place.{Place}
 use Rattle.task.specs.Jobs.{read_of, write_of, Limited}
 use Rattle.task.specs.Links.{earliest_after}
-use Rattle.task.specs.LinkLaws.{after_less, read_mono, forward_link_mono, forward_wait}
+use Rattle.task.proofs.LinkLaws.{after_less, read_mono, forward_link_mono, forward_wait}
 use Rattle.chain.specs.Chains.{at, last_place, forward_by, walk}
 use Rattle.chain.specs.Checks.{Sound}
 use Rattle.chain.specs.Hyperperiod.{hyper_of}
@@ -17,7 +17,7 @@ use Rattle.timing.specs.Delay.{delay_at}
 use Rattle.timing.specs.WarmLaws.{all_periods, walk_mono, warm_count}
 use Rattle.timing.specs.WarmRanges.{walk_late}
 use Rattle.partition.specs.Selections.{differ, differ_so}
-use Rattle.partition.specs.CutFree.{end_walk, write_less}
+use Rattle.partition.proofs.CutFree.{end_walk, write_less}
 
 -- jobs of a lower place forward: where a walk comes later, each of its links came later
 module _ (l : List Place) where

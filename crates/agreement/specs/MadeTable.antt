@@ -20,7 +20,7 @@ use Rattle.table.specs.Anchors.{Anchor, anchors, first_start, next}
 use Rattle.table.specs.WellFormed.{latency_limit, fitting, spaced, measured, well_formed}
 use Rattle.table.specs.Segments.{Spaced}
 use Rattle.partition.specs.Partitions.{anchors_of}
-use Rattle.partition.specs.CutFree.{canonical, cut_canonical}
+use Rattle.partition.proofs.CutFree.{canonical, cut_canonical}
 use Rattle.maker.specs.declared.Figures.{Figures}
 use Rattle.maker.specs.declared.Made.TheVariants.{Whole, Short, Refused}
 use Rattle.maker.specs.Making.{judged, figures_of, made_after, made_of, written_after, starts_of, latencies_of, overlay, Makes}

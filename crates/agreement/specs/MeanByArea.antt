@@ -12,7 +12,7 @@ use Rattle.table.specs.BothWays.{well_formed_iff, well_formed_laws}
 use Rattle.figures.specs.declared.Mean.TheVariants.{Doubled}
 use Rattle.figures.specs.Figures.{doubled_area, mean_of}
 use Rattle.figures.specs.Integral.{Integral}
-use Rattle.figures.specs.FinerTable.{area_integral}
+use Rattle.figures.proofs.FinerTable.{area_integral}
 use Rattle.maker.specs.declared.Figures.{Figures}
 use Rattle.maker.specs.declared.Made.{Made}
 use Rattle.maker.specs.declared.Made.TheVariants.{Whole}

@@ -15,7 +15,7 @@ use Rattle.table.specs.Figures.{greatest}
 use Rattle.table.specs.BothWays.{well_formed_iff, well_place}
 use Rattle.table.specs.Delays.{rises}
 use Rattle.table.specs.EveryTable.{first_start_holds, falls}
-use Rattle.partition.specs.CutFree.{canonical}
+use Rattle.partition.proofs.CutFree.{canonical}
 use Rattle.maker.specs.declared.Figures.{Figures}
 use Rattle.maker.specs.declared.Made.TheVariants.{Whole}
 use Rattle.maker.specs.Making.{Makes}

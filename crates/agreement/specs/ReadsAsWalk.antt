@@ -13,7 +13,7 @@ use Rattle.std.proofs.lemmas.Bool.{lt-leb}
 use Rattle.task.specs.declared.Place.{Place}
 use Rattle.task.specs.Jobs.{read_of}
 use Rattle.task.specs.Links.{earliest_after}
-use Rattle.task.specs.LinkLaws.{after_less, read_mono}
+use Rattle.task.proofs.LinkLaws.{after_less, read_mono}
 use Rattle.chain.specs.Chains.{at}
 use Rattle.chain.specs.Checks.{Sound}
 use Rattle.chain.specs.Hyperperiod.{hyper_of}
@@ -27,7 +27,7 @@ use Rattle.table.specs.Reading.{last_at, gives}
 use Rattle.partition.specs.Lists.{put}
 use Rattle.partition.specs.Selections.{differ_false, select, select_length}
 use Rattle.partition.specs.CanonicalAnchors.{ends_later, anchor_at, canonical_from}
-use Rattle.partition.specs.CutFree.{end_walk, canonical}
+use Rattle.partition.proofs.CutFree.{end_walk, canonical}
 use Rattle.agreement.specs.Jobs.{hyper_first, some_job, first_new}
 
 module _ (w readAt : ℕ → ℕ) (rise : (i j : ℕ) → i ≤ j → readAt i ≤ readAt j) where

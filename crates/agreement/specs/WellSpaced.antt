@@ -18,7 +18,7 @@ use Rattle.table.specs.Segments.{Spaced, Formed}
 use Rattle.partition.specs.Lists.{put}
 use Rattle.partition.specs.Selections.{differ_false, select}
 use Rattle.partition.specs.CanonicalAnchors.{ends_later, anchor_at}
-use Rattle.partition.specs.CutFree.{end_walk, canonical}
+use Rattle.partition.proofs.CutFree.{end_walk, canonical}
 use Rattle.agreement.specs.Jobs.{hyper_first, some_job, end_after, latency_fits}
 use Rattle.agreement.specs.ReadsAsWalk.{first_anchor, other_anchors, canonical_cons}
 

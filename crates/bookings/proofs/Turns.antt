@@ -6,7 +6,7 @@ use mathlib.Core.List.{List}
 use Rattle.task.specs.declared.Place.{Place}
 use Rattle.chain.specs.Checks.{Sound}
 use Rattle.ranges.specs.Largest.{largest}
-use Rattle.ranges.specs.LargestLaws.{largest_none, largest_step}
+use Rattle.ranges.proofs.LargestLaws.{largest_none, largest_step}
 use Rattle.bookings.specs.declared.Stretch.{Stretch}
 use Rattle.bookings.specs.Bookings.{booking_at, apart_of, apart_at}
 use Rattle.bookings.specs.Stretches.{until_of, stretch_at, stretch_on, until_late, until_soon, hand_booking, hand_until, stretch_on_holds, apart_stays}

@@ -8,7 +8,7 @@ use Rattle.std.proofs.Common.{◌∙◌, lt-ltb, le-ltb}
 use Rattle.task.specs.declared.Place.{Place}
 use Rattle.task.specs.Jobs.{read_of, write_of}
 use Rattle.task.specs.Links.{earliest_after}
-use Rattle.task.specs.LinkLaws.{AtLeast, after_less}
+use Rattle.task.proofs.LinkLaws.{AtLeast, after_less}
 use Rattle.chain.specs.Chains.{at, last_place, walk, back, job_of}
 use Rattle.chain.specs.Checks.{Sound}
 use Rattle.timing.specs.Delay.{delay_at}

@@ -1,1 +1,2 @@
 pub mod ArrayLaws
+pub mod SameLaws

@@ -13,8 +13,8 @@ use Rattle.schedule.specs.Schedules.{tasks_in, places_of, count_of, routes_in, c
 use Rattle.schedule.specs.Arrays.{Arrays}
 use Rattle.schedule.specs.Padding.{padded_same, padded_whole, length_padded, padded_at}
 use Rattle.schedule_checks.specs.Checks.{places_right}
-use Rattle.schedule_checks.specs.SameSchedule.{SameSchedule}
-use Rattle.schedule_checks.specs.SoundSchedule.{SoundSchedule, placed_cons}
+use Rattle.schedule_checks.proofs.SameSchedule.{SameSchedule}
+use Rattle.schedule_checks.proofs.SoundSchedule.{SoundSchedule, placed_cons}
 use Rattle.bounded.specs.declared.Bounded.{Bounded}
 use Rattle.bounded.specs.Bounded.{cleared_route, cleared_schedule, bounds_in, cleared}
 

@@ -1,3 +1,2 @@
 pub mod Bounded
 pub mod Cleared
-pub mod Same

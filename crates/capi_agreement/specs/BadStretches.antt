@@ -10,8 +10,8 @@ use Rattle.chain.specs.Checks.{verdict_of}
 use Rattle.chain.proofs.CheckLaws.{SmallVerdict, verdict_small}
 use Rattle.windows.specs.declared.Windows.TheVariants.{Most}
 use Rattle.windows.specs.Windows.{most_misses, earliest_job, after_limits, windows_after, windows_of}
-use Rattle.windows.specs.EveryWindow.{BadStretch}
-use Rattle.windows.specs.Answered.{windows_answered}
+use Rattle.windows.proofs.EveryWindow.{BadStretch}
+use Rattle.windows.proofs.Answered.{windows_answered}
 use Rattle.capi_chain.specs.FlatChain.{chain_from}
 use Rattle.capi_chain.specs.Front.{chain_twelve}
 use Rattle.capi_windows.specs.Calls.{window_numbers, GivesWindows}

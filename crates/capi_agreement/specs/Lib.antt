@@ -1,5 +1,3 @@
 pub mod Codes
-pub mod TablesAndWalks
-pub mod ChosenChain
 pub mod BadStretches
 pub mod Histograms

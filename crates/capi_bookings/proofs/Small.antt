@@ -14,7 +14,7 @@ use Rattle.chain.proofs.CheckLaws.{SmallVerdict, verdict_small}
 use Rattle.schedule.specs.declared.Schedule.{Schedule}
 use Rattle.schedule.specs.Schedules.{chain_at}
 use Rattle.schedule_checks.specs.Checks.{choice_of, after_choice}
-use Rattle.schedule_checks.specs.Positions.{choice_small}
+use Rattle.schedule_checks.proofs.Positions.{choice_small}
 use Rattle.timing.specs.Answers.{upper_tick}
 use Rattle.bookings.specs.declared.Bookings.{Bookings}
 use Rattle.bookings.specs.declared.Bookings.TheVariants.{Both, Refused}

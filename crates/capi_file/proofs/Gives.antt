@@ -9,7 +9,7 @@ use Rattle.refusal.specs.Refusals.{code_of}
 use Rattle.schedule.specs.declared.Schedule.{Schedule}
 use Rattle.file_reader.specs.declared.FileRead.{FileRead}
 use Rattle.file_reader.specs.Reading.{read_file}
-use Rattle.file_reader.specs.Offsets.{read_small}
+use Rattle.file_reader.proofs.Offsets.{read_small}
 use Rattle.file_writer.specs.declared.Written.{Written}
 use Rattle.file_writer.specs.declared.Written.TheVariants.{Bytes, Refused}
 use Rattle.file_writer.specs.Writing.{Writes}
@@ -17,8 +17,8 @@ use Rattle.file_writer.specs.Positions.{written_small}
 use Rattle.chain.specs.Flat.{flat_chain}
 use Rattle.schedule_checks.specs.declared.Chosen.{Chosen}
 use Rattle.schedule_checks.specs.Checks.{choice_of, chosen_of}
-use Rattle.schedule_checks.specs.Positions.{choice_small}
-use Rattle.schedule_checks.specs.ChosenChain.{chosen_refusal}
+use Rattle.schedule_checks.proofs.Positions.{choice_small}
+use Rattle.schedule_checks.proofs.ChosenChain.{chosen_refusal}
 use Rattle.capi_schedule.specs.FlatSchedule.{flat_tasks, flat_routes, route_counts}
 use Rattle.capi_file.specs.Calls.{GivesSchedule, GivesFile, GivesChain, written_code, written_length}
 

@@ -13,8 +13,8 @@ use Rattle.schedule.specs.Schedules.{tasks_in, places_of, count_of, chains_in, n
 use Rattle.schedule.specs.Arrays.{Arrays}
 use Rattle.schedule.specs.Padding.{take_padded, padded_at}
 use Rattle.schedule_checks.specs.Checks.{fault_of}
-use Rattle.schedule_checks.specs.SoundSchedule.{SoundSchedule, placed_front}
-use Rattle.schedule_checks.specs.SameSchedule.{SameSchedule, fault_same}
+use Rattle.schedule_checks.proofs.SoundSchedule.{SoundSchedule, placed_front}
+use Rattle.schedule_checks.proofs.SameSchedule.{SameSchedule, fault_same}
 use Rattle.little_endian.specs.LittleEndian.{Bytes}
 use Rattle.file_reader.specs.declared.FileRead.{FileRead}
 use Rattle.file_reader.specs.Reading.{read_file}
@@ -23,7 +23,8 @@ use Rattle.file_writer.specs.declared.Written.TheVariants as written
 use Rattle.file_writer.specs.FileBytes.{file_of, file_bytes}
 use Rattle.file_writer.specs.Writing.{length_verdict, left_bytes, written_of}
 use Rattle.file_writer.specs.Accepted.{Accepted, accepted}
-use Rattle.round_trip.specs.RoundTrips.{cleared, read_arrays, read_sound, read_places, write_after_read, read_after_write, cleared_parts, cleared_arrays, cleared_places}
+use Rattle.round_trip.specs.RoundTrips.{cleared}
+use Rattle.round_trip.proofs.RoundTrips.{read_arrays, read_sound, read_places, write_after_read, read_after_write, cleared_parts, cleared_arrays, cleared_places}
 use Rattle.capi_schedule.specs.FlatSchedule.{tasks_from, count_from, held_from, place_from, route_from, routes_from, schedule_from, numbered_fields, flat_tasks, flat_routes, route_counts}
 use Rattle.capi_schedule.specs.GivenBack.{from_arrays, schedule_given_back, front_tasks, same_tasks, count_fits, count_is, held_back, held_is, flat_long, flat_at, count_at, SameChains, same_counts, same_places}
 use Rattle.capi_file.specs.Calls.{written_code, written_length, GivesSchedule, GivesFile}

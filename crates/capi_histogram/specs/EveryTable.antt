@@ -16,8 +16,8 @@ use Rattle.table.specs.BothWays.{well_formed_iff, well_formed_laws}
 use Rattle.histogram.specs.declared.Histogram.{Histogram}
 use Rattle.histogram.specs.declared.Histogram.TheVariants.{Refused}
 use Rattle.histogram.specs.Histogram.{rest_of, histogram_of}
-use Rattle.histogram.specs.EveryHyperperiod.{Counts, CountsDelays, every_hyperperiod, all_ticks}
-use Rattle.histogram.specs.Reach.{long_enough}
+use Rattle.histogram.proofs.EveryHyperperiod.{Counts, CountsDelays, every_hyperperiod, all_ticks}
+use Rattle.histogram.proofs.Reach.{long_enough}
 use Rattle.capi_histogram.specs.Calls.{histogram_numbers, GivesHistogram}
 
 -- a choice with code 0 is its first side

@@ -13,7 +13,7 @@ use Rattle.capi_chain.specs.FlatChain.{chain_from}
 use Rattle.capi_chain.specs.Front.{chain_given_back}
 use Rattle.load.specs.declared.Load.{Load}
 use Rattle.load.specs.Load.{loaded, load_of}
-use Rattle.load.specs.Passes.{not_refused, made, twelve_tasks, passes, hyper_divides, hyper_longest}
+use Rattle.load.proofs.Passes.{not_refused, made, twelve_tasks, passes, hyper_divides, hyper_longest}
 use Rattle.capi_load.specs.Calls.{GivesLoad}
 
 module _ (seed places code : ℕ) (tasks : List ℕ) (gives : GivesLoad seed places code tasks) where

@@ -19,9 +19,9 @@ use Rattle.schedule.specs.Arrays.{Arrays}
 use Rattle.schedule.specs.Padding.{map_at}
 use Rattle.schedule.specs.Rule.{rule}
 use Rattle.schedule_checks.specs.Checks.{first_fault, choice_of}
-use Rattle.schedule_checks.specs.SoundSchedule.{SoundSchedule, fault_cons}
-use Rattle.schedule_checks.specs.ChosenChain.{choice_sound}
-use Rattle.schedule_checks.specs.SameSchedule.{SameSchedule, chain_same, choice_same}
+use Rattle.schedule_checks.proofs.SoundSchedule.{SoundSchedule, fault_cons}
+use Rattle.schedule_checks.proofs.ChosenChain.{choice_sound}
+use Rattle.schedule_checks.proofs.SameSchedule.{SameSchedule, chain_same, choice_same}
 use Rattle.timing.specs.WarmUp.{warm_tick}
 use Rattle.timing.specs.Delay.{delay_at}
 use Rattle.latency.specs.Latency.{greatest_latency}

@@ -12,8 +12,8 @@ use Rattle.chain.specs.StandsFor.{StandsFor}
 use Rattle.schedule.specs.Schedules.{known}
 use Rattle.latency.specs.Latency.{greatest_latency}
 use Rattle.sections.specs.Sections.{sections_of, sections_answer}
-use Rattle.sections.specs.Alone.{chain_alone}
-use Rattle.sections.specs.EveryCut.{whole_at_most, each_cut_adds, whole_answer, each_section_adds, never_lowers}
+use Rattle.sections.proofs.Alone.{chain_alone}
+use Rattle.sections.proofs.EveryCut.{whole_at_most, each_cut_adds, whole_answer, each_section_adds, never_lowers}
 use Rattle.capi_chain.specs.FlatChain.{places_of, chain_from}
 use Rattle.capi_chain.specs.Front.{chain_twelve, front_stands}
 use Rattle.capi_sections.specs.Calls.{GivesSections}

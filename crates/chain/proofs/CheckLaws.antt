@@ -12,7 +12,7 @@ use Rattle.refusal.specs.Refusals.{refusal}
 use Rattle.task.specs.declared.Task.{Task}
 use Rattle.task.specs.declared.Place.{Place}
 use Rattle.task.specs.Jobs.{place_of, within_limits, Within, gap_limit}
-use Rattle.task.specs.LinkLaws.{limits, limits_placed}
+use Rattle.task.proofs.LinkLaws.{limits, limits_placed}
 use Rattle.euclid.specs.Divisor.{lcm_of}
 use Rattle.chain.specs.declared.Chain.{Chain}
 use Rattle.chain.specs.declared.Verdict.{Verdict}

@@ -9,7 +9,7 @@ use Rattle.task.specs.declared.Job.{Job}
 use Rattle.task.specs.declared.Latest.TheVariants.{Of, Nothing}
 use Rattle.task.specs.Links.{forward_link, backward_link}
 use Rattle.task.specs.Jobs.{read_of, write_of, readable_of}
-use Rattle.task.specs.LinkLaws.{backward_earlier}
+use Rattle.task.proofs.LinkLaws.{backward_earlier}
 use Rattle.chain.specs.Chains.{at, forward_by, backward_by, on_latest}
 use Rattle.chain.specs.Checks.{Sound}
 use Rattle.chain.specs.Ranges.{forward_fits}

@@ -6,7 +6,7 @@ use Rattle.task.specs.declared.Place.{Place}
 use Rattle.task.specs.declared.Latest.{Latest}
 use Rattle.task.specs.declared.Latest.TheVariants.{Of, Nothing}
 use Rattle.task.specs.Links.{forward_link, backward_link}
-use Rattle.task.specs.LinkLaws.{AtLeast, link}
+use Rattle.task.proofs.LinkLaws.{AtLeast, link}
 use Rattle.chain.specs.Chains.{at, forward_by, on_latest, backward_by}
 
 -- Every period up to place p is at least 1.

@@ -6,7 +6,7 @@ use Rattle.std.proofs.Math.Decide.{dec_lt, dec_le}
 use Rattle.task.specs.declared.Place.{Place}
 use Rattle.task.specs.declared.Latest.{Latest}
 use Rattle.task.specs.declared.Latest.TheVariants.{Of, Nothing}
-use Rattle.task.specs.LinkLaws.{AtLeast}
+use Rattle.task.proofs.LinkLaws.{AtLeast}
 use Rattle.chain.specs.Chains.{forward_by, backward_by}
 use Rattle.chain.specs.Galois.{Periods, galois}
 

@@ -6,7 +6,7 @@ use Rattle.std.proofs.Math.Decide.{dec_lt}
 use Rattle.std.proofs.Math.Nat.{dvd_refl, dvd_trans, div-mul_cancel, one-dvd}
 use Rattle.task.specs.declared.Place.{Place}
 use Rattle.euclid.specs.Divisor.{lcm_of}
-use Rattle.euclid.specs.LeastMultiple.{lcm_left, lcm_right, lcm_least, lcm_pos, lcm_ge}
+use Rattle.euclid.proofs.LeastMultiple.{lcm_left, lcm_right, lcm_least, lcm_pos, lcm_ge}
 use Rattle.chain.specs.Chains.{at}
 use Rattle.chain.specs.Hyperperiod.{hyper_from, hyper_of}
 use Rattle.chain.specs.Checks.{Sound}

@@ -10,7 +10,7 @@ use Rattle.task.specs.declared.Latest.{Latest}
 use Rattle.task.specs.declared.Latest.TheVariants.{Of, Nothing}
 use Rattle.task.specs.Jobs.{read_of, write_of, Limited}
 use Rattle.task.specs.Links.{backward_link}
-use Rattle.task.specs.LinkLaws.{forward_later, forward_soon, backward_earlier}
+use Rattle.task.proofs.LinkLaws.{forward_later, forward_soon, backward_earlier}
 use Rattle.chain.specs.Chains.{at, forward_by, backward_by, on_latest}
 use Rattle.chain.specs.Checks.{Sound}
 

@@ -1,3 +1,2 @@
 pub mod Divisor
-pub mod LeastMultiple
 pub mod Combination

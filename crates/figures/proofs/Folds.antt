@@ -15,7 +15,8 @@ use Rattle.table.specs.BothWays.{well_formed_laws}
 use Rattle.table.specs.Delays.{greatest_small}
 use Rattle.figures.specs.Ticks.{scan}
 use Rattle.figures.specs.Exceeding.{stretch, round_bounded, best_grows}
-use Rattle.figures.specs.Gathering.{gathered, with_anchor, Gathers, first_latency, gathering, gathers_anchors, area_small}
+use Rattle.figures.specs.Gathering.{gathered, with_anchor, Gathers, first_latency, gathering}
+use Rattle.figures.proofs.Gathering.{gathers_anchors, area_small}
 
 module _ (s v : List ℕ) (g H : ℕ) (w : WellFormed s v g H) where
   -- one turn of a fold

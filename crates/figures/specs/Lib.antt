@@ -3,9 +3,8 @@ pub mod Figures
 pub mod Folding
 pub mod ByAnchors
 pub mod Integral
-pub mod Area
 pub mod Gathering
 pub mod LongestRun
 pub mod Exceeding
 pub mod EveryBound
-pub mod FinerTable
+pub mod Area

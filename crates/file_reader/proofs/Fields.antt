@@ -11,7 +11,7 @@ use Rattle.schedule.specs.declared.NumberedTask.{NumberedTask}
 use Rattle.schedule.specs.Schedules.{position_of, padded}
 use Rattle.schedule.specs.Padding.{padded_none, padded_set}
 use Rattle.schedule.specs.Numbers.{known_position, unknown_position}
-use Rattle.file_reader.specs.Records.{length_numbers}
+use Rattle.file_reader.proofs.Records.{length_numbers}
 use Rattle.file_reader.specs.Reading.{numbers_from, chain_field, task_field, last_of, all_known}
 
 numbers_more : (l : List ℕ) (at n : ℕ) → numbers_from l at (suc n) ≡ numbers_from l at n ++ (number_at l (at + 2 * n) 2 ∷ [])

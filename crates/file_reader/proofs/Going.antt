@@ -16,7 +16,7 @@ use Rattle.file_reader.specs.declared.Record.{Record}
 use Rattle.file_reader.specs.declared.Record.TheVariants.{Task, Chain, Gap, End, Fault}
 use Rattle.file_reader.specs.declared.FileRead.{FileRead}
 use Rattle.file_reader.specs.Reading.{chain_field, record_of, refused_file, accepted_file, after_record, read_from, read_file}
-use Rattle.file_reader.specs.Records.{tells}
+use Rattle.file_reader.proofs.Records.{tells}
 
 pub map_snoc : {A B : Type 0} (f : A → B) (l : List A) (x : A) → map f (l ++ (x ∷ [])) ≡ map f l ++ (f x ∷ [])
 map_snoc f [] x = refl

@@ -1,2 +1,3 @@
 pub mod Stores
 pub mod Room
+pub mod Lengths

@@ -12,11 +12,11 @@ use Rattle.refusal.specs.Refusals.{refusal}
 use Rattle.schedule.specs.declared.Schedule.{Schedule}
 use Rattle.schedule.specs.Schedules.{tasks_in, routes_in, chains_in}
 use Rattle.schedule_checks.specs.Checks.{places_right, fault_of}
-use Rattle.schedule_checks.specs.SoundSchedule.{SoundSchedule}
+use Rattle.schedule_checks.proofs.SoundSchedule.{SoundSchedule}
 use Rattle.file_writer.specs.declared.Written.{Written}
 use Rattle.file_writer.specs.declared.Written.TheVariants.{Bytes, Refused}
 use Rattle.file_writer.specs.FileBytes.{chains_bytes, gap_bytes, file_bytes}
-use Rattle.file_writer.specs.Lengths.{length_file}
+use Rattle.file_writer.proofs.Lengths.{length_file}
 use Rattle.file_writer.specs.Writing.{length_verdict, written_of, left_bytes}
 use Rattle.file_writer.specs.Accepted.{Accepted, sound_written}
 

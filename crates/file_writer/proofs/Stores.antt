@@ -6,14 +6,14 @@ use mathlib.Core.List.{List, [], ◌++◌, map, append_assoc}
 use lib.ListN.{length, take, drop, get_or, length-append}
 use lib.Seq.{sets, length-sets}
 use Rattle.little_endian.specs.LittleEndian.{bytes_of}
-use Rattle.little_endian.specs.Spelling.{length_bytes}
+use Rattle.little_endian.proofs.Spelling.{length_bytes}
 use Rattle.little_endian.specs.Stores.{sets_append, sets_front}
 use Rattle.chain.proofs.Front.{front_cons, front_end}
 use Rattle.schedule.specs.declared.NumberedTask.{NumberedTask}
 use Rattle.schedule.specs.declared.Route.{Route}
 use Rattle.schedule.specs.Schedules.{zero_numbered, no_route, places_of}
 use Rattle.file_writer.specs.FileBytes.{task_bytes, tasks_bytes, numbers_bytes, chain_bytes, chains_bytes, gap_bytes, end_bytes, file_of}
-use Rattle.file_writer.specs.Lengths.{length_task, length_tasks}
+use Rattle.file_writer.proofs.Lengths.{length_task, length_tasks}
 
 -- two runs, the second w bytes on
 pub two_runs : (l m n : List ℕ) (at next : ℕ) (a b : List ℕ) → at + length a ≡ next → m ≡ sets l at a → n ≡ sets m next b → n ≡ sets l at (a ++ b)

@@ -8,7 +8,7 @@ use borrow.Author.Tests.{leb-true, eqb-true, eq-eqb}
 use Rattle.refusal.specs.Refusals.{refusal}
 use Rattle.schedule.specs.declared.Schedule.{Schedule}
 use Rattle.schedule_checks.specs.Checks.{fault_of}
-use Rattle.schedule_checks.specs.SoundSchedule.{SoundSchedule, sound}
+use Rattle.schedule_checks.proofs.SoundSchedule.{SoundSchedule, sound}
 use Rattle.file_writer.specs.declared.Written.TheVariants.{Bytes, Refused}
 use Rattle.file_writer.specs.FileBytes.{file_bytes}
 use Rattle.file_writer.specs.Writing.{length_verdict, written_of}

@@ -4,7 +4,7 @@ use Rattle.std.proofs.Common.{arith}
 use Rattle.refusal.specs.Refusals.{refusal}
 use Rattle.schedule.specs.declared.Schedule.{Schedule}
 use Rattle.schedule_checks.specs.Checks.{fault_of}
-use Rattle.schedule_checks.specs.Positions.{SmallFault, fault_small}
+use Rattle.schedule_checks.proofs.Positions.{SmallFault, fault_small}
 use Rattle.file_writer.specs.declared.Written.{Written}
 use Rattle.file_writer.specs.declared.Written.TheVariants.{Bytes, Refused}
 use Rattle.file_writer.specs.FileBytes.{file_bytes}

@@ -6,7 +6,7 @@ use Rattle.chain.specs.declared.Chain.{Chain}
 use Rattle.schedule.specs.declared.Schedule.{Schedule}
 use Rattle.schedule_checks.specs.declared.Chosen.{Chosen}
 use Rattle.schedule_checks.specs.Checks.{choice_of, chosen_of}
-use Rattle.schedule_checks.specs.ChosenChain.{chosen_refusal, chosen_chain}
+use Rattle.schedule_checks.proofs.ChosenChain.{chosen_refusal, chosen_chain}
 use Rattle.from_schedule.specs.Answers.{HoldsAfter}
 
 module _ (s : Schedule) (n : ℕ) (Refused : Refusal → Type 0) (Answered : Chain → Type 0) (c : Chosen) (is : c ≡ chosen_of s n) where

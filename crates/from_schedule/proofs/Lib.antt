@@ -1,1 +1,4 @@
 pub mod Choices
+pub mod EveryCut
+pub mod ChainByChain
+pub mod Pairs

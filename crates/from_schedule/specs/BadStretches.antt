@@ -7,11 +7,11 @@ use Rattle.chain.specs.Chains.{tasks_of}
 use Rattle.schedule.specs.declared.Schedule.{Schedule}
 use Rattle.schedule.specs.Schedules.{chain_at}
 use Rattle.schedule.specs.Arrays.{Arrays}
-use Rattle.schedule_checks.specs.ChosenChain.{chosen_twelve, choice_answers, answer_chosen}
+use Rattle.schedule_checks.proofs.ChosenChain.{chosen_twelve, choice_answers, answer_chosen}
 use Rattle.windows.specs.declared.Windows.TheVariants.{Most, Refused}
 use Rattle.windows.specs.Windows.{windows_of}
-use Rattle.windows.specs.EveryWindow.{BadStretch}
-use Rattle.windows.specs.Answered.{windows_answered}
+use Rattle.windows.proofs.EveryWindow.{BadStretch}
+use Rattle.windows.proofs.Answered.{windows_answered}
 use Rattle.from_schedule.specs.Answers.{windows_from}
 
 pub windows_answered_from : (s : Schedule) → Arrays s → (n B k m : ℕ) (j : Job) → windows_from s n B k ≡ Most m j → BadStretch (tasks_of (chain_at s n)) B k m j.0

@@ -11,9 +11,11 @@ use Rattle.table.specs.Delays.{greatest_small}
 use Rattle.figures.specs.ByAnchors.{segments}
 use Rattle.histogram.specs.declared.Histogram.TheVariants.{Rest, Refused}
 use Rattle.histogram.specs.Histogram.{entry_of, rest_of, histogram_of, counts_of, Gives}
-use Rattle.histogram.specs.Counting.{come_to_H}
-use Rattle.histogram.specs.Differences.{modulus, opposite, shifted, with_range, with_anchor, up_to, length_anchors}
-use Rattle.histogram.specs.Entries.{widest, differences, entry_found}
+use Rattle.histogram.proofs.Counting.{come_to_H}
+use Rattle.histogram.specs.Differences.{modulus, opposite, shifted, with_range, with_anchor, up_to}
+use Rattle.histogram.proofs.Differences.{length_anchors}
+use Rattle.histogram.specs.Entries.{widest, differences}
+use Rattle.histogram.proofs.Entries.{entry_found}
 
 pub smaller_part : (x width : ℕ) → x ≤ widest → x / width ≤ widest
 smaller_part x width h = omega (arith, div-le_self x width)

@@ -58,35 +58,6 @@ module _ (a : Askable) where
   commits s (ask p ∷ l) = commits (next s (ask p)) l
   commits s (commit p ∷ l) = cond (fine (refused_for s (commit p))) (p ∷ commits (next s (commit p)) l) (commits (next s (commit p)) l)
 
-  -- ---- laws
-
-  -- "the running one is that of the last commit not refused, or the first"
-  pub running_last : (s : State a.P) (l : List (Call a.P)) → (run next s l).running ≡ last_or s.running (commits s l)
-  unfolding run commits last_or next
-  running_last s [] = refl
-  running_last s (ask p ∷ l) = running_last (next s (ask p)) l ∙ ap (λ (x : a.P). last_or x (commits (next s (ask p)) l)) (stays (fine (refused_for s (ask p))))
-    where
-      stays : (b : Bool) → (cond b (after s (ask p)) s).running ≡ s.running
-      stays true = refl
-      stays false = refl
-  running_last s (commit p ∷ l) = go (fine (refused_for s (commit p))) (running_last (next s (commit p)) l)
-    where
-      go : (b : Bool) → (run next (cond b (after s (commit p)) s) l).running ≡ last_or (cond b (after s (commit p)) s).running (commits (cond b (after s (commit p)) s) l)
-          → (run next (cond b (after s (commit p)) s) l).running
-          ≡ last_or s.running (cond b (p ∷ commits (cond b (after s (commit p)) s) l) (commits (cond b (after s (commit p)) s) l))
-      go true k = k
-      go false k = k
-
-  -- A commit that is not refused names the proposal.
-  pub names_proposal : (q : Proposal a.P) (p : a.P) → fine (commit_fault q p) ≡ true → q ≡ standing p
-  unfolding commit_fault
-  names_proposal nothing p h = absurd (true≢false (sym h))
-  names_proposal (standing q) p h = go (a.same p q) refl h
-    where
-      go : (b : Bool) → a.same p q ≡ b → fine (cond b none (refusal 23 0)) ≡ true → standing q ≡ standing p
-      go true e h = ap standing (sym (a.same_equal p q e))
-      go false e h = absurd (true≢false (sym h))
-
   -- What runs, and what is proposed, passed an ask.
   abbrev pub Passed : a.P → Type 0
   Passed p = (a.fault p).number ≡ 0
@@ -98,28 +69,3 @@ module _ (a : Askable) where
   pub record Holds (s : State a.P) : Type 0 where
     pub running : Passed s.running
     pub proposal : PassedProposal s.proposal
-
-  -- so what it names passed
-  named : (q : Proposal a.P) (p : a.P) → fine (commit_fault q p) ≡ true → PassedProposal q → Passed p
-  unfolding PassedProposal
-  named q p h k = subst PassedProposal (names_proposal q p h) k
-
-  holds_next : (s : State a.P) (c : Call a.P) → Holds s → Holds (next s c)
-  unfolding next refused_for PassedProposal
-  holds_next s (ask p) h = choice Holds (fine (a.fault p)) _ _ (λ u. record { running = h.running; proposal = eqb-true (a.fault p).number 0 u }) (λ u. h)
-  holds_next s (commit p) h = choice Holds (fine (commit_fault s.proposal p)) _ _ (λ u. record { running = named s.proposal p u h.proposal; proposal = tt }) (λ u. h)
-
-  -- "and meets its own bounds": after every list of calls from a state in which only what passes an ask runs, only such runs.
-  pub running_passed : (p : a.P) → Passed p → (l : List (Call a.P)) → Passed (run next (record { running = p; proposal = nothing }) l).running
-  unfolding PassedProposal
-  running_passed p h l = (run_keeps next Holds holds_next (record { running = p; proposal = nothing }) l (record { running = h; proposal = tt })).running
-
-  -- The same of what is proposed.
-  pub proposal_passed : (p : a.P) → Passed p → (l : List (Call a.P)) → PassedProposal (run next (record { running = p; proposal = nothing }) l).proposal
-  unfolding PassedProposal
-  proposal_passed p h l = (run_keeps next Holds holds_next (record { running = p; proposal = nothing }) l (record { running = h; proposal = tt })).proposal
-
-  -- An ask that is not refused can be committed at once.
-  pub ask_commit : (s : State a.P) (p : a.P) → fine (refused_for s (ask p)) ≡ true → refused_for (next s (ask p)) (commit p) ≡ none
-  unfolding next refused_for commit_fault
-  ask_commit s p h = rw (h, a.same_self p)

@@ -5,7 +5,7 @@ use mathlib.Core.Path.{◌≡◌, sym, ap, ◌∙◌}
 use mathlib.Core.List.{List}
 use Rattle.task.specs.declared.Place.{Place}
 use Rattle.ranges.specs.Largest.{largest}
-use Rattle.ranges.specs.LargestLaws.{largest_none, largest_one, largest_next, largest_some}
+use Rattle.ranges.proofs.LargestLaws.{largest_none, largest_one, largest_next, largest_some}
 use Rattle.partition.specs.declared.Partition.{Partition}
 use Rattle.partition.specs.Partitions.{IsPartition}
 use Rattle.partition.proofs.Bounds.{start_end, own}

@@ -9,7 +9,7 @@ use mathlib.Core.List.{List, map}
 use Rattle.task.specs.declared.Place.{Place}
 use Rattle.task.specs.declared.Latest.TheVariants.{Of}
 use Rattle.task.specs.Jobs.{read_of}
-use Rattle.task.specs.LinkLaws.{AtLeast, read_mono}
+use Rattle.task.proofs.LinkLaws.{AtLeast, read_mono}
 use Rattle.chain.specs.Chains.{at, last_place, forward_by, backward_by, walk}
 use Rattle.chain.specs.Checks.{Sound}
 use Rattle.chain.specs.Hyperperiod.{hyper_of}
@@ -21,7 +21,7 @@ use Rattle.timing.specs.WarmLaws.{Found, periods, start_there}
 use Rattle.table.specs.Figures.{greatest}
 use Rattle.partition.specs.Lists.{range_from, put, keep, fresh, drop_repeats}
 use Rattle.partition.specs.Partitions.{start_of, end_of, keeps, anchor_of, anchors_from}
-use Rattle.partition.specs.CutFree.{end_walk, walk_parts, cut_free, warm_way}
+use Rattle.partition.proofs.CutFree.{end_walk, walk_parts, cut_free, warm_way}
 use Rattle.agreement.specs.Jobs.{delay_read, read_warm}
 use Rattle.latency.specs.Latency.{greatest_latency, latency_of}
 use Rattle.latency.specs.GreatestDelay.{greatest_latency_is}

@@ -6,7 +6,7 @@ use Rattle.std.proofs.Math.Nat.{add-mul}
 use Rattle.std.proofs.Math.Path.{ap}
 use Rattle.std.proofs.Math.ListN.{length}
 use Rattle.ranges.specs.Largest.{largest}
-use Rattle.ranges.specs.LargestLaws.{largest_top, largest_next}
+use Rattle.ranges.proofs.LargestLaws.{largest_top, largest_next}
 use Rattle.task.specs.declared.Place.{Place}
 use Rattle.chain.specs.Chains.{at, last_place, forward_by, backward_by, job_of}
 use Rattle.chain.specs.Checks.{Sound}

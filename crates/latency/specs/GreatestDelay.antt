@@ -11,7 +11,7 @@ use Rattle.timing.specs.WarmUp.{warm_tick}
 use Rattle.timing.specs.Delay.{delay_at}
 use Rattle.table.specs.Figures.{greatest}
 use Rattle.table.specs.GreatestDelay.{GreatestFrom}
-use Rattle.partition.specs.CutFree.{canonical, cut_canonical}
+use Rattle.partition.proofs.CutFree.{canonical, cut_canonical}
 use Rattle.figures.specs.declared.Greatest.TheVariants.{Latency}
 use Rattle.figures.specs.Figures.{greatest_of}
 use Rattle.maker.specs.declared.Figures.{Figures}

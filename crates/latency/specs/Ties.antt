@@ -15,7 +15,7 @@ use Rattle.timing.specs.WarmUp.{warm_tick, warm_at}
 use Rattle.table.specs.Anchors.{Anchor}
 use Rattle.partition.specs.Partitions.{range_of, anchors_of}
 use Rattle.partition.specs.Selections.{range_length}
-use Rattle.partition.specs.CutFree.{cut_canonical}
+use Rattle.partition.proofs.CutFree.{cut_canonical}
 use Rattle.maker.specs.declared.Figures.{Figures}
 use Rattle.maker.specs.declared.Made.{Made}
 use Rattle.maker.specs.declared.Made.TheVariants.{Whole, Short}

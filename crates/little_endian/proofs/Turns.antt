@@ -6,7 +6,7 @@ use mathlib.Core.List.{List}
 use lib.ListN.{length, get_or, set}
 use lib.Seq.{sets, drop-cons}
 use Rattle.little_endian.specs.LittleEndian.{value_of, bytes_of, number_at, power}
-use Rattle.little_endian.specs.Spelling.{power_four}
+use Rattle.little_endian.proofs.Spelling.{power_four}
 
 -- No bytes spell 0.
 pub number_none : (l : List ℕ) (at w : ℕ) → 0 ≡ number_at l at (w - w)

@@ -1,4 +1,2 @@
 pub mod LittleEndian
-pub mod Spelling
 pub mod Stores
-pub mod Fields

@@ -10,7 +10,7 @@ use Rattle.load.specs.declared.Draw.{Draw}
 use Rattle.load.specs.declared.DrawnTask.{DrawnTask}
 use Rattle.load.specs.declared.Load.{Load}
 use Rattle.load.specs.Load.{step_of, mix_of, draw_of, period_of, drawn_task, tasks_from, array_from, no_load, load_of}
-use Rattle.load.specs.Passes.{fit, tasks_length, made}
+use Rattle.load.proofs.Passes.{fit, tasks_length, made}
 
 pub drawn : (s t : ℕ) → t ≡ step_of s → ◌≡◌ {A = Draw} (record { state = t; value = mix_of t }) (draw_of s)
 unfolding draw_of

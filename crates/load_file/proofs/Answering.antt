@@ -11,7 +11,7 @@ use Rattle.refusal.specs.declared.Refusal.{Refusal}
 use Rattle.schedule.specs.declared.Schedule.{Schedule}
 use Rattle.schedule.specs.Schedules.{padded}
 use Rattle.schedule.specs.Padding.{padded_none}
-use Rattle.schedule_checks.specs.SoundSchedule.{no_refusal}
+use Rattle.schedule_checks.proofs.SoundSchedule.{no_refusal}
 use Rattle.file_writer.specs.declared.Written.{Written}
 use Rattle.file_writer.specs.declared.Written.TheVariants.{Bytes, Refused}
 use Rattle.file_writer.specs.FileBytes.{file_bytes}
@@ -19,7 +19,7 @@ use Rattle.file_writer.specs.Writing.{length_verdict, written_of, left_bytes, Wr
 use Rattle.file_writer.specs.Accepted.{sound_written}
 use Rattle.load.specs.declared.Load.{Load}
 use Rattle.load.specs.Load.{load_of}
-use Rattle.load.specs.Passes as passes
+use Rattle.load.proofs.Passes as passes
 use Rattle.decimal.specs.declared.Number.{Number}
 use Rattle.decimal.specs.declared.Number.TheVariants.{Of, Wrong}
 use Rattle.decimal.specs.Numbers.{number_of}

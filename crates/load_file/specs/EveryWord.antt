@@ -6,7 +6,7 @@ use Rattle.schedule.specs.Schedules.{padded}
 use Rattle.schedule.specs.Padding.{take_padded, length_padded}
 use Rattle.load.specs.declared.Load.{Load}
 use Rattle.load.specs.Load.{load_of}
-use Rattle.load.specs.Passes as passes
+use Rattle.load.proofs.Passes as passes
 use Rattle.text.specs.Text.{decimal}
 use Rattle.decimal.specs.declared.Number.{Number}
 use Rattle.decimal.specs.declared.Number.TheVariants.{Of, Wrong}

@@ -8,7 +8,7 @@ use mathlib.Core.List.{List, [], ◌∷◌, ◌++◌, map, append-nil}
 use Rattle.std.proofs.Math.ListN.{length}
 use Rattle.refusal.specs.Refusals.{none}
 use Rattle.task.specs.declared.Task.{Task}
-use Rattle.task.specs.LinkLaws.{limits_hold}
+use Rattle.task.proofs.LinkLaws.{limits_hold}
 use Rattle.chain.specs.declared.Chain.{Chain}
 use Rattle.chain.specs.Chains.{given_of, zero_task}
 use Rattle.ranges.specs.Entries.{entries, entries_length}
@@ -18,16 +18,16 @@ use Rattle.schedule.specs.declared.Schedule.{Schedule}
 use Rattle.schedule.specs.Schedules.{number_of, tasks_in, places_of, routes_in, chains_in, task_rule, known, task_numbered, padded, chain_of, route_numbered, chain_at, zero_numbered, route_of, schedule_of}
 use Rattle.schedule.specs.Padding.{take_padded}
 use Rattle.schedule_checks.specs.Checks.{first_fault, first_unknown}
-use Rattle.schedule_checks.specs.SoundSchedule.{SoundSchedule}
+use Rattle.schedule_checks.proofs.SoundSchedule.{SoundSchedule}
 use Rattle.file_reader.specs.Reading.{read_file}
 use Rattle.file_writer.specs.FileBytes.{chain_bytes, chains_bytes, gap_bytes, file_of, file_bytes}
-use Rattle.file_writer.specs.Lengths.{length_chain, length_file}
+use Rattle.file_writer.proofs.Lengths.{length_chain, length_file}
 use Rattle.round_trip.specs.Right.{no_chain_holds, one_more, Right}
 use Rattle.round_trip.specs.ReadAfterWrite.{read_of_file}
-use Rattle.round_trip.specs.RoundTrips.{routes_front, routes_back, right_sound}
+use Rattle.round_trip.proofs.RoundTrips.{routes_front, routes_back, right_sound}
 use Rattle.load.specs.declared.Load.{Load}
 use Rattle.load.specs.Load.{task_of, drawn_task, tasks_from, load_of}
-use Rattle.load.specs.Passes as passes
+use Rattle.load.proofs.Passes as passes
 use Rattle.load_file.specs.LoadFile.{numbered_from, numbers_from, numbers_to, alone_of, file_of_load}
 
 -- ---- tasks with the numbers from n on

@@ -7,7 +7,7 @@ use lib.ListN.{length, set, length-set}
 use lib.Seq.{get_or-set_same}
 use Rattle.task.specs.declared.Place.{Place}
 use Rattle.task.specs.Jobs.{read_of, readable_of}
-use Rattle.task.specs.LinkLaws.{read_mono}
+use Rattle.task.proofs.LinkLaws.{read_mono}
 use Rattle.chain.specs.Chains.{at}
 use Rattle.chain.specs.Ranges.{forward_fits, backward_fits}
 use Rattle.partition.specs.declared.Partition.{Partition}

@@ -3,7 +3,7 @@ use Rattle.std.specs.Prelude.{ℕ, ◌+◌, ◌*◌, ◌/◌, ◌≤◌, ◌<◌
 use Rattle.std.proofs.Common.{arith, div-mul-le_self, div-le_self, ◌∙◌}
 use Rattle.task.specs.declared.Place.{Place}
 use Rattle.task.specs.Jobs.{write_of}
-use Rattle.task.specs.LinkLaws.{read_mono}
+use Rattle.task.proofs.LinkLaws.{read_mono}
 use Rattle.chain.specs.Chains.{at}
 use Rattle.chain.specs.Checks.{Sound}
 use Rattle.chain.specs.Multiples.{some_jobs}

@@ -8,7 +8,7 @@ use Rattle.task.specs.declared.Place.{Place}
 use Rattle.task.specs.declared.Latest.{Latest}
 use Rattle.task.specs.declared.Latest.TheVariants.{Of, Nothing}
 use Rattle.task.specs.Jobs.{read_of, write_of, Limited}
-use Rattle.task.specs.LinkLaws.{job_small, read_mono}
+use Rattle.task.proofs.LinkLaws.{job_small, read_mono}
 use Rattle.chain.specs.Chains.{at, last_place, backward_by, job_of}
 use Rattle.chain.specs.Checks.{Sound}
 use Rattle.chain.specs.Ranges.{forward_fits, forward_late, backward_fits}

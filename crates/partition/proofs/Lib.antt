@@ -1,1 +1,4 @@
 pub mod Bounds
+pub mod CutFree
+pub mod FewAnchors
+pub mod WithoutGap

@@ -12,7 +12,7 @@ use borrow.Author.Tests.{le-leb, lt-leb, lt-ltb, le-ltb, eqb-true}
 use Rattle.refusal.specs.Refusals.{refusal}
 use Rattle.ranges.specs.Least.{least_from}
 use Rattle.euclid.specs.Divisor.{gcd_of}
-use Rattle.euclid.specs.LeastMultiple.{gcd_left, gcd_pos}
+use Rattle.euclid.proofs.LeastMultiple.{gcd_left, gcd_pos}
 use Rattle.task.specs.declared.Task.{Task}
 use Rattle.task.specs.declared.Place.{Place}
 use Rattle.task.specs.Jobs.{place_of}

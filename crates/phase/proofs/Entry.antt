@@ -14,7 +14,7 @@ use Rattle.schedule.specs.Arrays.{Arrays}
 use Rattle.schedule.specs.ChainTasks.{route_there}
 use Rattle.schedule_checks.specs.declared.Chosen.{Chosen}
 use Rattle.schedule_checks.specs.Checks.{choice_of, chosen_of}
-use Rattle.schedule_checks.specs.ChosenChain.{chosen_refusal, chosen_chain, choice_sound, choice_refused}
+use Rattle.schedule_checks.proofs.ChosenChain.{chosen_refusal, chosen_chain, choice_sound, choice_refused}
 use Rattle.phase.specs.declared.Phase.{Phase}
 use Rattle.phase.specs.declared.Phase.TheVariants.{Refused}
 use Rattle.phase.specs.Phases.{places_at, phase_from}

@@ -7,7 +7,7 @@ use mathlib.Core.Path.{◌≡◌, sym, ap, ◌∙◌, subst}
 use mathlib.Core.List.{List}
 use lib.ListN.{length, get_or, length-map}
 use Rattle.euclid.specs.Divisor.{lcm_of}
-use Rattle.euclid.specs.LeastMultiple.{lcm_left, lcm_right, lcm_least, lcm_pos}
+use Rattle.euclid.proofs.LeastMultiple.{lcm_left, lcm_right, lcm_least, lcm_pos}
 use Rattle.task.specs.declared.Task.{Task}
 use Rattle.task.specs.declared.Place.{Place}
 use Rattle.task.specs.Jobs.{place_of}

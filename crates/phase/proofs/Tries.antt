@@ -12,11 +12,11 @@ use mir.Syntax.{w64}
 use mir.Val.{Fits}
 use borrow.Author.Tests.{le-leb, lt-leb}
 use Rattle.ranges.specs.Least.{least_from}
-use Rattle.ranges.specs.LeastLaws.{least_here, least_on}
+use Rattle.ranges.proofs.LeastLaws.{least_here, least_on}
 use Rattle.task.specs.declared.Task.{Task}
 use Rattle.task.specs.declared.Place.{Place}
 use Rattle.task.specs.Jobs.{place_of, write_of}
-use Rattle.task.specs.LinkLaws.{read_mono}
+use Rattle.task.proofs.LinkLaws.{read_mono}
 use Rattle.chain.specs.Chains.{placed, at}
 use Rattle.chain.specs.Checks.{Sound}
 use Rattle.chain.specs.Hyperperiod.{hyper_of}

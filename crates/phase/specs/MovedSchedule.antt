@@ -9,10 +9,10 @@ use mathlib.Core.List.{List, [], ◌∷◌, map}
 use Rattle.std.proofs.lemmas.List.{length-map}
 use borrow.Author.Tests.{eq-eqb, ne_eqb, le-leb, lt-ltb}
 use Rattle.refusal.specs.Refusals.{refusal, none}
-use Rattle.ranges.specs.LeastLaws.{least_same}
+use Rattle.ranges.proofs.LeastLaws.{least_same}
 use Rattle.task.specs.declared.Task.{Task}
 use Rattle.task.specs.Jobs.{Within}
-use Rattle.task.specs.LinkLaws.{limits_hold}
+use Rattle.task.proofs.LinkLaws.{limits_hold}
 use Rattle.chain.specs.declared.Verdict.{Verdict}
 use Rattle.chain.specs.declared.Verdict.TheVariants as verdict
 use Rattle.chain.specs.Chains.{given_of, placed, tasks_of, zero_task}
@@ -28,9 +28,9 @@ use Rattle.schedule.specs.Rule.{rule}
 use Rattle.schedule.specs.ChainTasks.{chain_tasks}
 use Rattle.schedule.proofs.PlaceLaws.{map_take}
 use Rattle.schedule_checks.specs.Checks.{first_fault, first_unknown, choice_of}
-use Rattle.schedule_checks.specs.SoundSchedule.{SoundSchedule, fault_cons, no_refusal}
-use Rattle.schedule_checks.specs.SoundChain.{sound_placed, sound_length, sound_known, sound_chain, sound_route}
-use Rattle.schedule_checks.specs.ChosenChain.{choice_sound, choice_there, choice_answers}
+use Rattle.schedule_checks.proofs.SoundSchedule.{SoundSchedule, fault_cons, no_refusal}
+use Rattle.schedule_checks.proofs.SoundChain.{sound_placed, sound_length, sound_known, sound_chain, sound_route}
+use Rattle.schedule_checks.proofs.ChosenChain.{choice_sound, choice_there, choice_answers}
 use Rattle.latency.specs.Latency.{greatest_latency}
 use Rattle.phase.specs.declared.Phase.{Phase}
 use Rattle.phase.specs.declared.Phase.TheVariants.{Refused}

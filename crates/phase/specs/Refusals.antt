@@ -12,7 +12,7 @@ use Rattle.chain.proofs.CheckLaws.{SmallVerdict, verdict_small}
 use Rattle.schedule.specs.declared.Schedule.{Schedule}
 use Rattle.schedule.specs.Schedules.{known, chain_at}
 use Rattle.schedule_checks.specs.Checks.{choice_of, after_choice}
-use Rattle.schedule_checks.specs.Positions.{choice_small}
+use Rattle.schedule_checks.proofs.Positions.{choice_small}
 use Rattle.phase.specs.declared.Phase.{Phase}
 use Rattle.phase.specs.declared.Phase.TheVariants.{Of, Nothing, Refused}
 use Rattle.phase.specs.Phases.{keeps_bound, smallest_of, period_of, places_at, phase_after, phase_from}

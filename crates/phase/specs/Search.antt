@@ -3,7 +3,7 @@ use Rattle.std.specs.Prelude.{ℕ, zero, suc, ◌+◌, ◌*◌, ◌/◌, ◌%◌
 use Rattle.std.proofs.Common.{arith, mod-lt, div-add-mod', sym, ap, ◌∙◌, lt-ltb, le-ltb}
 use Rattle.std.proofs.Math.Decide.{dec_lt}
 use Rattle.ranges.specs.Least.{least_from}
-use Rattle.ranges.specs.LeastLaws.{found_first, none_found, first_least, least_end}
+use Rattle.ranges.proofs.LeastLaws.{found_first, none_found, first_least, least_end}
 use Rattle.phase.specs.declared.Phase.TheVariants.{Of, Nothing}
 use Rattle.phase.specs.Phases.{found_at, smallest_of}
 

@@ -13,9 +13,9 @@ use Rattle.std.proofs.lemmas.List.{length-map}
 use borrow.Author.Tests.{le-leb, leb-true, leb-false}
 use Rattle.refusal.specs.declared.Refusal.{Refusal}
 use Rattle.refusal.specs.Refusals.{refusal}
-use Rattle.ranges.specs.LeastLaws.{least_same}
+use Rattle.ranges.proofs.LeastLaws.{least_same}
 use Rattle.euclid.specs.Divisor.{gcd_of}
-use Rattle.euclid.specs.LeastMultiple.{gcd_left, gcd_greatest}
+use Rattle.euclid.proofs.LeastMultiple.{gcd_left, gcd_greatest}
 use Rattle.task.specs.declared.Task.{Task}
 use Rattle.task.specs.declared.Place.{Place}
 use Rattle.task.specs.Jobs.{place_of}
@@ -35,7 +35,7 @@ use Rattle.schedule.specs.Arrays.{Arrays}
 use Rattle.schedule.specs.Padding.{map_at}
 use Rattle.schedule.specs.Numbers.{unknown_position}
 use Rattle.schedule_checks.specs.Checks.{choice_of}
-use Rattle.schedule_checks.specs.ChosenChain.{chosen_twelve, choice_sound, choice_answers, answer_chosen}
+use Rattle.schedule_checks.proofs.ChosenChain.{chosen_twelve, choice_sound, choice_answers, answer_chosen}
 use Rattle.timing.specs.WarmUp.{warm_tick}
 use Rattle.timing.specs.Delay.{delay_at}
 use Rattle.figures.specs.declared.Greatest.TheVariants.{Latency}

@@ -22,14 +22,14 @@ use Rattle.schedule.specs.Schedules.{tasks_in, no_route, chain_of, padded}
 use Rattle.schedule.specs.Arrays.{Arrays}
 use Rattle.schedule.specs.Padding.{store_more, length_padded}
 use Rattle.schedule_checks.specs.Checks.{fault_of}
-use Rattle.schedule_checks.specs.SoundSchedule.{SoundSchedule}
-use Rattle.schedule_checks.specs.SoundChain.{sound_chain}
+use Rattle.schedule_checks.proofs.SoundSchedule.{SoundSchedule}
+use Rattle.schedule_checks.proofs.SoundChain.{sound_chain}
 use Rattle.latency.specs.Latency.{greatest_latency}
 use Rattle.bounded.specs.declared.Bounded.{Bounded}
 use Rattle.bounded.specs.Bounded.{pairwise}
 use Rattle.bounded.specs.Cleared.{BoundedArrays}
 use Rattle.promises.specs.Promises.{chains_of, hyper_refusal, checks_of, chain_latency, greatest_in, latencies_of, within_bounds, refused_with, judged_of}
-use Rattle.promises.specs.EveryChain.{no_chain, chain_numbered, chain_there, chains_counted, checks_sound, checks_accepted, within_four}
+use Rattle.promises.proofs.EveryChain.{no_chain, chain_numbered, chain_there, chains_counted, checks_sound, checks_accepted, within_four}
 
 -- ---- 7 chain by chain
 

@@ -10,7 +10,7 @@ use Rattle.schedule.specs.declared.Route.{Route}
 use Rattle.schedule.specs.declared.Schedule.{Schedule}
 use Rattle.schedule.specs.Schedules.{tasks_in, places_of, count_of, routes_in, chains_in, chain_of, task_numbered, padded}
 use Rattle.schedule_checks.specs.Checks.{fault_of}
-use Rattle.schedule_checks.specs.SameSchedule.{SameSchedule, fault_same}
+use Rattle.schedule_checks.proofs.SameSchedule.{SameSchedule, fault_same}
 use Rattle.bounded.specs.declared.Bounded.{Bounded}
 use Rattle.bounded.specs.Bounded.{bounds_in, pairwise, cleared_schedule, cleared}
 use Rattle.bounded.specs.Cleared.{BoundedArrays, cleared_same, bounds_stay}

@@ -17,7 +17,7 @@ use Rattle.chain.specs.Checks.{verdict_of}
 use Rattle.little_endian.specs.LittleEndian.{Bytes}
 use Rattle.file_reader.specs.declared.FileRead.{FileRead}
 use Rattle.file_reader.specs.Reading.{read_file}
-use Rattle.round_trip.specs.RoundTrips.{read_sound}
+use Rattle.round_trip.proofs.RoundTrips.{read_sound}
 use Rattle.table.specs.Anchors.{Anchor, anchors}
 use Rattle.table.specs.WellFormed.{well_formed}
 use Rattle.maker.specs.declared.Figures.{Figures}

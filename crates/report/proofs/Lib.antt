@@ -1,2 +1,4 @@
 pub mod Exits
 pub mod Parts
+pub mod Refusals
+pub mod Survey

@@ -1,5 +1,3 @@
 pub mod Report
 pub mod Lent
 pub mod Ties
-pub mod Refusals
-pub mod Survey

@@ -18,7 +18,8 @@ use Rattle.file_writer.specs.declared.Written.TheVariants as written
 use Rattle.file_writer.specs.FileBytes.{file_bytes}
 use Rattle.file_writer.specs.Writing.{length_verdict, left_bytes, written_of, Writes}
 use Rattle.file_writer.specs.Accepted.{accepted}
-use Rattle.round_trip.specs.RoundTrips.{rewritten_of, reread_after, Rewrites, Rereads, read_after_write, spelt_again, written_again}
+use Rattle.round_trip.specs.RoundTrips.{rewritten_of, reread_after, Rewrites, Rereads}
+use Rattle.round_trip.proofs.RoundTrips.{read_after_write, spelt_again, written_again}
 
 -- ---- reading, then writing
 

@@ -13,8 +13,8 @@ use Rattle.file_reader.proofs.Going.{map_snoc}
 use Rattle.file_reader.proofs.Exits.{task_judged, chain_judged, gap_judged, record_kind, kind_task, kind_chain, kind_end, kind_gap}
 use Rattle.file_writer.specs.FileBytes.{task_bytes, tasks_bytes, chain_bytes, chains_bytes, gap_bytes, end_bytes, file_of}
 use Rattle.schedule_checks.specs.Checks.{first_fault}
-use Rattle.schedule_checks.specs.SoundSchedule.{fault_cons}
-use Rattle.file_writer.specs.Lengths.{length_task, length_chain, length_gap, length_end}
+use Rattle.schedule_checks.proofs.SoundSchedule.{fault_cons}
+use Rattle.file_writer.proofs.Lengths.{length_task, length_chain, length_gap, length_end}
 use Rattle.round_trip.specs.RecordBytes.{Small, task_front, head_length, head_kind, task_read, chain_front, chain_read, gap_front, gap_read}
 use Rattle.round_trip.specs.Right.{Placed, one_more, Right, rule_fits, unknown_all, chain_small}
 

@@ -8,8 +8,8 @@ use mathlib.Core.List.{List, [], ◌∷◌, ◌++◌, append_assoc}
 use Rattle.std.proofs.Math.ListN.{length, take}
 use Rattle.std.proofs.Math.Seq.{take_all}
 use Rattle.little_endian.specs.LittleEndian.{bytes_of, number_at, Bytes, power}
-use Rattle.little_endian.specs.Spelling.{length_bytes}
-use Rattle.little_endian.specs.Fields.{number_front, number_past, bytes_of_number, take_join}
+use Rattle.little_endian.proofs.Spelling.{length_bytes}
+use Rattle.little_endian.proofs.Fields.{number_front, number_past, bytes_of_number, take_join}
 use Rattle.schedule.specs.declared.NumberedTask.{NumberedTask}
 use Rattle.file_reader.specs.Reading.{length_field, kind_field, task_field, numbers_from, chain_field, gap_field}
 use Rattle.file_writer.specs.FileBytes.{task_bytes, numbers_bytes, chain_bytes, gap_bytes, end_bytes}

@@ -10,7 +10,7 @@ use Rattle.schedule.specs.Padding.{take_padded, length_padded}
 use Rattle.schedule.specs.Rule.{rule}
 use Rattle.file_reader.specs.Reading.{last_of, all_known}
 use Rattle.schedule_checks.specs.Checks.{places_right, first_fault, first_unknown, unknown_place}
-use Rattle.schedule_checks.specs.SoundSchedule.{right_count, placed_cons, known_cons, fault_cons}
+use Rattle.schedule_checks.proofs.SoundSchedule.{right_count, placed_cons, known_cons, fault_cons}
 use Rattle.round_trip.specs.RecordBytes.{FitsTask, Small, none, more}
 
 -- Each chain has 1 to 12 places, with numbers of tasks.

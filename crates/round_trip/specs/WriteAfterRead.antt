@@ -7,7 +7,7 @@ use mathlib.Core.List.{List, [], ◌∷◌, ◌++◌, map, append_assoc, append-
 use Rattle.std.proofs.Math.ListN.{drop}
 use Rattle.std.proofs.lemmas.List.{length-map}
 use Rattle.little_endian.specs.LittleEndian.{Bytes}
-use Rattle.little_endian.specs.Fields.{bytes_drop}
+use Rattle.little_endian.proofs.Fields.{bytes_drop}
 use Rattle.task.specs.Jobs.{gap_limit}
 use Rattle.schedule.specs.declared.NumberedTask.{NumberedTask}
 use Rattle.schedule.specs.Schedules.{number_of}
@@ -15,9 +15,9 @@ use Rattle.file_reader.specs.declared.Record.{Record}
 use Rattle.file_reader.specs.declared.Record.TheVariants.{Task, Chain, Gap, End, Fault}
 use Rattle.file_reader.specs.declared.FileRead.{FileRead}
 use Rattle.file_reader.specs.Reading.{chain_field, record_of, refused_file, accepted_file, after_record, read_from, read_file}
-use Rattle.file_reader.specs.Records.{IsTask, IsChain, IsGap, IsEnd, Tells, tells, length_numbers}
+use Rattle.file_reader.proofs.Records.{IsTask, IsChain, IsGap, IsEnd, Tells, tells, length_numbers}
 use Rattle.file_writer.specs.FileBytes.{task_bytes, tasks_bytes, chain_bytes, chains_bytes, gap_bytes, file_of}
-use Rattle.file_writer.specs.Lengths.{no_gap}
+use Rattle.file_writer.proofs.Lengths.{no_gap}
 use Rattle.schedule_checks.specs.Checks.{first_fault}
 use Rattle.schedule_checks.proofs.Faults.{fault_none}
 use Rattle.round_trip.specs.RecordBytes.{task_back, chain_back, gap_back, end_back}

@@ -2,7 +2,7 @@
 use Rattle.std.specs.Prelude.{ℕ, ◌≤◌, ◌<◌, ◌≡◌, refl, Bool, true, false, ◌&&◌, ltb, leb}
 use Rattle.std.proofs.Common.{arith, ltb-true, leb-true}
 use Rattle.task.specs.Jobs.{Within}
-use Rattle.task.specs.LinkLaws.{limits}
+use Rattle.task.proofs.LinkLaws.{limits}
 use Rattle.schedule.specs.declared.NumberedTask.{NumberedTask}
 use Rattle.schedule.specs.Schedules.{task_rule}
 

@@ -12,7 +12,7 @@ use Rattle.schedule.specs.Schedules.{tasks_in, no_route, chain_of, chain_at}
 use Rattle.schedule.specs.ChainTasks.{route_there}
 use Rattle.schedule_checks.specs.declared.Chosen.{Chosen}
 use Rattle.schedule_checks.specs.Checks.{count_right, fault_of, choice_of, none_chosen, chosen_of}
-use Rattle.schedule_checks.specs.SoundSchedule.{count_right_holds}
+use Rattle.schedule_checks.proofs.SoundSchedule.{count_right_holds}
 
 module _ (s : Schedule) (n : ℕ) where
   pub schedule_refused : (r : Refusal) → r ≡ fault_of s → (r.number ≡ 0 → ⊥) → none_chosen r ≡ chosen_of s n

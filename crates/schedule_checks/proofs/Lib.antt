@@ -1,2 +1,7 @@
 pub mod Faults
 pub mod Choice
+pub mod SoundSchedule
+pub mod SoundChain
+pub mod ChosenChain
+pub mod Positions
+pub mod SameSchedule

@@ -19,7 +19,7 @@ use Rattle.sections.specs.declared.Sections.{Sections}
 use Rattle.sections.specs.Sections as sections
 use Rattle.sections.specs.Sections.{parts_from, sections_of, rises_to, latencies_of, sum_of, answered}
 use Rattle.sections.specs.Uniform.{Cuttable, section_cuttable}
-use Rattle.sections.specs.CutLaws.{sections_count, Rising, rising}
+use Rattle.sections.proofs.CutLaws.{sections_count, Rising, rising}
 
 -- ---- lists
 

@@ -1,2 +1,5 @@
 pub mod Cutting
 pub mod Exits
+pub mod CutLaws
+pub mod EveryCut
+pub mod Alone

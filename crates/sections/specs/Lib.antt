@@ -3,8 +3,5 @@ pub mod Uniform
 pub mod Parts
 pub mod OneCut
 pub mod TwoSections
-pub mod CutLaws
-pub mod EveryCut
 pub mod Standing
-pub mod Alone
 pub mod PartOfList

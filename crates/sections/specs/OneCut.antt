@@ -6,7 +6,7 @@ use Rattle.std.proofs.Math.Decide.{dec_lt}
 use Rattle.task.specs.declared.Place.{Place}
 use Rattle.task.specs.Jobs.{read_of}
 use Rattle.task.specs.Links.{earliest_from, earliest_after}
-use Rattle.task.specs.LinkLaws.{after_less}
+use Rattle.task.proofs.LinkLaws.{after_less}
 
 -- What is known of a chain: its first task, where the way from a job comes (w) and ends (e), its warm-up tick and its greatest latency.
 pub record Walks (a : Place) (w e : ℕ → ℕ) (x G : ℕ) : Type 0 where

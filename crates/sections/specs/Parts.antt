@@ -12,7 +12,7 @@ use Rattle.task.specs.Links.{forward_link}
 use Rattle.chain.specs.Chains.{at, zero_place, last_place, forward_by, walk}
 use Rattle.chain.specs.Checks.{Sound}
 use Rattle.chain.specs.Galois.{forward_cut}
-use Rattle.partition.specs.CutFree.{end_walk}
+use Rattle.partition.proofs.CutFree.{end_walk}
 use Rattle.sections.specs.Uniform.{part_sound}
 
 module _ (u v : List Place) (some-u : 1 ≤ length u) (some-v : 1 ≤ length v) (ok : Sound (u ++ v)) where

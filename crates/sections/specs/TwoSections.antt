@@ -6,13 +6,13 @@ use Rattle.std.proofs.Math.Path.{refl}
 use Rattle.task.specs.declared.Place.{Place}
 use Rattle.task.specs.Jobs.{write_of}
 use Rattle.task.specs.Links.{earliest_from, earliest_after, forward_link}
-use Rattle.task.specs.LinkLaws.{after_less}
+use Rattle.task.proofs.LinkLaws.{after_less}
 use Rattle.chain.specs.Chains.{at, last_place, walk}
 use Rattle.chain.specs.Checks.{Sound}
 use Rattle.timing.specs.WarmUp.{warm_at, warm_tick}
 use Rattle.timing.specs.Delay.{delay_at}
 use Rattle.timing.specs.Period.{press_after}
-use Rattle.partition.specs.CutFree.{end_walk}
+use Rattle.partition.proofs.CutFree.{end_walk}
 use Rattle.timing.specs.WarmLaws.{walk_mono}
 use Rattle.agreement.specs.Jobs.{walk_warm, walk_after, end_after}
 use Rattle.latency.specs.Latency.{greatest_latency}

@@ -5,7 +5,7 @@ use native.Mathlib.Nat.{mul-le-mul_right, div-mul-le_self, div-le_self, div-add-
 use mathlib.Core.Path.{◌≡◌, ap, ◌∙◌}
 use mathlib.Core.List.{List}
 use lib.ListN.{set}
-use Rattle.stepping.specs.Reciprocal.{whole_periods}
+use Rattle.stepping.proofs.Reciprocal.{whole_periods}
 use Rattle.stepping.specs.OnePlace.{period_at, factor_at, shift_at, job_at, rest_at, Advanced, Roomy}
 
 module _ (r s : List ℕ) (i ticks : ℕ) (k : Roomy r s i ticks) where

@@ -2,3 +2,4 @@ pub mod Advancing
 pub mod Turns
 pub mod Ends
 pub mod Step
+pub mod Reciprocal

@@ -5,7 +5,7 @@ use mathlib.Core.Path.{◌≡◌, ◌∙◌}
 use mathlib.Core.List.{List}
 use lib.ListN.{length, set, length-set}
 use Rattle.task.specs.declared.Place.{Place}
-use Rattle.task.specs.LinkLaws.{read_mono}
+use Rattle.task.proofs.LinkLaws.{read_mono}
 use Rattle.chain.specs.Chains.{at}
 use Rattle.partition.specs.declared.Partition.{Partition}
 use Rattle.partition.specs.Partitions.{IsPartition}

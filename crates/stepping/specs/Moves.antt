@@ -12,7 +12,7 @@ use Rattle.std.proofs.lemmas.Bool.{lt-leb}
 use Rattle.task.specs.declared.Place.{Place}
 use Rattle.task.specs.declared.Latest.TheVariants.{Of}
 use Rattle.task.specs.Jobs.{read_of}
-use Rattle.task.specs.LinkLaws.{AtLeast}
+use Rattle.task.proofs.LinkLaws.{AtLeast}
 use Rattle.chain.specs.Chains.{at, forward_by, backward_by, job_of}
 use Rattle.chain.specs.Checks.{Sound}
 use Rattle.chain.specs.Hyperperiod.{hyper_of}

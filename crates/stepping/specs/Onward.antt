@@ -4,7 +4,7 @@ use Rattle.std.proofs.Common.{arith, add-mul, mod-lt, sym, ap, ◌∙◌, length
 use Rattle.std.proofs.Math.Decide.{dec_lt}
 use Rattle.task.specs.declared.Place.{Place}
 use Rattle.task.specs.Jobs.{read_of, write_of, readable_of}
-use Rattle.task.specs.LinkLaws.{job_small}
+use Rattle.task.proofs.LinkLaws.{job_small}
 use Rattle.chain.specs.Chains.{at, forward_by, backward_by}
 use Rattle.chain.specs.Checks.{Sound}
 use Rattle.chain.specs.Ranges.{forward_fits, backward_fits}

@@ -346,7 +346,3 @@ said =
     ∷ (8 ∷ 0 ∷ []) ∷ (8 ∷ 0 ∷ [])
     ∷ (0 ∷ 60000000 ∷ []) ∷ (7 ∷ 0 ∷ [])
     ∷ []
-
-pub survey : computed ≡ said
-unfolding computed within_limits earliest_from latest_over forward_link backward_link euclid gcd_of lcm_of forward_by on_latest backward_by hyper_from first_fault hyper_verdict after_gap verdict_for least_from warm_last warm_at warm_tick delay_at first_aged age_at entries warm_up_after span_after anchors spaced well_formed read.reading read.delay_at read.last_at greatest low_to low total every_above longest_run ticks delay_sum doubled_area exceedance greatest_of low_of mean_of exceedance_of range_from keep fresh drop_repeats start_of end_of keeps anchors_from judged made_after written_after span_of misses misses_in largest most_misses earliest_job windows_after padded sections.parts_from sections.rises_to sum sections.sections_after greatest_latency histogram_of counts_of load.draw_of load.period_of load.drawn_task load.tasks_from load.load_of flat_of task_rule known task_numbered route_numbered schedule-checks.count_right schedule-checks.places_right schedule-checks.counts_right schedule-checks.first_fault schedule-checks.first_unknown schedule-checks.unknown_place schedule-checks.after_gap schedule-checks.fault_of schedule-checks.choice_of schedule-checks.after_choice phase_after pairwise same_task same_route same_schedule same_bounded hyper_refusal checks_of judged_of make_of ask_of commit_refusal commit_of
-survey = refl

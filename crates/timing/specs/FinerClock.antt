@@ -11,7 +11,7 @@ use Rattle.std.proofs.Math.ListN.{get_or-map}
 use Rattle.task.specs.declared.Place.{Place}
 use Rattle.task.specs.Jobs.{read_of, write_of, readable_of}
 use Rattle.task.specs.Links.{earliest_after, forward_link}
-use Rattle.task.specs.LinkLaws.{after_less, link_forward}
+use Rattle.task.proofs.LinkLaws.{after_less, link_forward}
 use Rattle.chain.specs.Chains.{zero_place, at, last_place, forward_by, walk}
 use Rattle.chain.specs.Checks.{Sound}
 use Rattle.timing.specs.Delay.{delay_at}

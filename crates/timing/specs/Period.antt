@@ -11,7 +11,7 @@ use Rattle.task.specs.declared.Latest.{Latest}
 use Rattle.task.specs.declared.Latest.TheVariants.{Of, Nothing}
 use Rattle.task.specs.Jobs.{write_of}
 use Rattle.task.specs.Links.{earliest_from, earliest_after, backward_link}
-use Rattle.task.specs.LinkLaws.{Later, periods_later, read_later, earliest_later, backward_later, earliest_reads, read_mono}
+use Rattle.task.proofs.LinkLaws.{Later, periods_later, read_later, earliest_later, backward_later, earliest_reads, read_mono}
 use Rattle.chain.specs.Chains.{at, last_place, on_latest, forward_by, backward_by, walk, back}
 use Rattle.chain.specs.Hyperperiod.{hyper_of}
 use Rattle.chain.specs.Checks.{Sound}

@@ -7,16 +7,16 @@ use Rattle.task.specs.declared.Place.{Place}
 use Rattle.task.specs.declared.Job.{Job}
 use Rattle.task.specs.declared.Latest.{Latest}
 use Rattle.task.specs.declared.Latest.TheVariants.{Of, Nothing}
-use Rattle.task.specs.LinkLaws.{AtLeast}
+use Rattle.task.proofs.LinkLaws.{AtLeast}
 use Rattle.chain.specs.Chains.{at, last_place, forward_by, backward_by, on_latest, walk, back, job_of}
 use Rattle.chain.specs.Checks.{Sound}
 use Rattle.timing.specs.WarmUp.{is_job, reaches, warm_last, warm_at}
 use Rattle.task.specs.Links.{backward_link, latest_by}
-use Rattle.task.specs.LinkLaws.{latest_is}
+use Rattle.task.proofs.LinkLaws.{latest_is}
 use Rattle.timing.specs.Delay.{first_aged}
 use Rattle.chain.specs.Galois.{Periods, galois, forward_cut, backward_cut}
 use Rattle.chain.specs.GaloisPair.{count_back, count_of, forward_mono}
-use Rattle.ranges.specs.LeastLaws.{least_end}
+use Rattle.ranges.proofs.LeastLaws.{least_end}
 
 -- ---- a job that is there
 

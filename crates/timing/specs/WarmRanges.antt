@@ -6,7 +6,7 @@ use Rattle.task.specs.declared.Job.{Job}
 use Rattle.task.specs.declared.Latest.TheVariants.{Of}
 use Rattle.task.specs.Jobs.{read_of, write_of}
 use Rattle.task.specs.Links.{earliest_after, latest_by}
-use Rattle.task.specs.LinkLaws.{earliest_reads, earliest_soon, latest_is}
+use Rattle.task.proofs.LinkLaws.{earliest_reads, earliest_soon, latest_is}
 use Rattle.chain.specs.Chains.{at, last_place, walk, back}
 use Rattle.chain.specs.Checks.{Sound}
 use Rattle.chain.specs.Ranges.{forward_fits, forward_late, backward_fits}

@@ -23,13 +23,13 @@ use Rattle.timing.specs.WarmUp.{warm_at}
 use Rattle.timing.specs.WarmRanges.{warm_range}
 use Rattle.windows.specs.declared.Windows.TheVariants.{Most, Refused}
 use Rattle.ranges.specs.Largest.{largest}
-use Rattle.ranges.specs.LargestLaws.{largest_top, reached}
-use Rattle.ranges.specs.LeastLaws.{FirstOf, first_least}
+use Rattle.ranges.proofs.LargestLaws.{largest_top, reached}
+use Rattle.ranges.proofs.LeastLaws.{FirstOf, first_least}
 use Rattle.windows.specs.Windows.{misses, starts, window_of, most_misses, earliest_job, after_limits, windows_after, windows_in}
 use Rattle.windows.specs.Scan.{Looked}
 use Rattle.windows.specs.Sliding.{at_most}
-use Rattle.windows.specs.EveryWindow.{starts_pos}
-use Rattle.windows.specs.Answered.{Passed, passed}
+use Rattle.windows.proofs.EveryWindow.{starts_pos}
+use Rattle.windows.proofs.Answered.{Passed, passed}
 use Rattle.windows.proofs.Ends.{number_small}
 
 module _ (h k : ℕ) where

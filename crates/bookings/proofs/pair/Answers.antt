@@ -1,7 +1,7 @@
 use mathlib.Core.Path.{◌∙◌}
 use lib.ListN.{length-map}
 use Rattle.chain.proofs.Filling.{Lent, lent}
-use Rattle.bookings.specs.Standing.{bookings_stands}
+use Rattle.bookings.proofs.Standing.{bookings_stands}
 use borrow.Author.Rules.{rules}
 use Rattle.bookings.proofs.pair.Goals as goal
 use Rattle.bookings.proofs.pair.Goals.{After-flat_length-m, After-flat_length-n}

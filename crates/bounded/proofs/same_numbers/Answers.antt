@@ -4,7 +4,7 @@ use borrow.Author.Tests.{eq-eqb, ne_eqb}
 use Prim.Native.Nat.{◌-◌, ◌≤◌}
 use lib.Dec.{eqb}
 use lib.ListN.{length, drop}
-use Rattle.bounded.specs.Same.{pair_on, pair_off, pair_end}
+use Rattle.bounded.proofs.SameLaws.{pair_on, pair_off, pair_end}
 use Rattle.bounded.specs.Bounded.{pairwise}
 use Rattle.bounded.proofs.same_numbers.Goals as goal
 

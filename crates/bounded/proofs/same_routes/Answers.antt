@@ -3,7 +3,7 @@ use mathlib.Core.Path.{◌≡◌, refl, sym, ◌∙◌}
 use borrow.Author.Rules.{rules}
 use Prim.Native.Nat.{◌-◌, ◌≤◌}
 use lib.ListN.{length, drop}
-use Rattle.bounded.specs.Same.{pair_on, pair_off, pair_end}
+use Rattle.bounded.proofs.SameLaws.{pair_on, pair_off, pair_end}
 use Rattle.bounded.specs.Bounded.{same_route, pairwise}
 use Rattle.bounded.proofs.same_routes.Goals as goal
 

@@ -3,7 +3,7 @@ use mathlib.Core.Path.{◌≡◌, refl, sym, ◌∙◌}
 use borrow.Author.Rules.{rules}
 use Prim.Native.Nat.{◌-◌, ◌≤◌}
 use lib.ListN.{length, drop}
-use Rattle.bounded.specs.Same.{pair_on, pair_off, pair_end}
+use Rattle.bounded.proofs.SameLaws.{pair_on, pair_off, pair_end}
 use Rattle.schedule.specs.Schedules.{zero_numbered}
 use Rattle.bounded.specs.Bounded.{same_task, pairwise}
 use Rattle.bounded.proofs.same_tasks.Given as goal

@@ -3,7 +3,7 @@ use borrow.Author.Rules.{rules}
 use Rattle.refusal.specs.Refusals.{code_of}
 use Rattle.chain.specs.Flat.{flat_chain}
 use Rattle.load.specs.declared.Load.{Load}
-use Rattle.load.specs.Passes.{small_refusal}
+use Rattle.load.proofs.Passes.{small_refusal}
 use Rattle.capi_load.proofs.mo_load.Goals as goal
 
 pub code-requires : goal.code-requires

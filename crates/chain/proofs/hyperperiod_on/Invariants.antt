@@ -4,7 +4,7 @@ use Prim.Native.Nat.{ℕ, ◌+◌, ◌-◌, ◌≤◌}
 use mathlib.Core.Path.{◌≡◌, refl, sym, ap, ◌∙◌}
 use lib.ListN.{length, drop}
 use Rattle.euclid.specs.Divisor.{lcm_of}
-use Rattle.euclid.specs.LeastMultiple.{lcm_ge}
+use Rattle.euclid.proofs.LeastMultiple.{lcm_ge}
 use Rattle.task.specs.declared.Place.{Place}
 use Rattle.task.specs.Jobs.{Limited}
 use Rattle.chain.specs.Chains.{zero_place}

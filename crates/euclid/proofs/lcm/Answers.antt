@@ -1,7 +1,7 @@
 use native.Mathlib.Omega.{arith}
 use native.Mathlib.Nat.{mul-le-mul_right, div-le_self}
 use Rattle.euclid.specs.Divisor.{lcm_of}
-use Rattle.euclid.specs.LeastMultiple.{gcd_pos}
+use Rattle.euclid.proofs.LeastMultiple.{gcd_pos}
 use Rattle.euclid.proofs.lcm.Goals as goal
 
 pub nonzero_div-result : goal.nonzero_div-result

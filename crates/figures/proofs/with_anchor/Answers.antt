@@ -1,5 +1,5 @@
 use native.Mathlib.Omega.{arith}
-use Rattle.figures.specs.Area.{anchor_bound}
+use Rattle.figures.proofs.Area.{anchor_bound}
 use borrow.Author.Rules.{rules}
 use Rattle.figures.proofs.with_anchor.Goals as goal
 

@@ -1,5 +1,5 @@
 use borrow.Author.Rules.{rules}
-use Rattle.file_reader.specs.Records.{length_numbers}
+use Rattle.file_reader.proofs.Records.{length_numbers}
 use Rattle.file_reader.proofs.route_of.Goals as goal
 
 pub returns : goal.returns

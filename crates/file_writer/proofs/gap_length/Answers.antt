@@ -1,6 +1,6 @@
 use native.Mathlib.Omega.{arith}
 use mathlib.Core.Path.{refl}
-use Rattle.file_writer.specs.Lengths.{length_gap, no_gap}
+use Rattle.file_writer.proofs.Lengths.{length_gap, no_gap}
 use Rattle.file_writer.proofs.gap_length.Goals as goal
 
 pub returns-then-gap-eq0 : goal.returns-then-gap-eq0

@@ -3,7 +3,7 @@ use Prim.Native.Nat.{◌+◌, ◌*◌}
 use mathlib.Core.Path.{◌≡◌, sym, ap, ◌∙◌}
 use lib.ListN.{length, length-map}
 use Rattle.refusal.specs.declared.Refusal.{Refusal}
-use Rattle.schedule_checks.specs.SoundSchedule.{SoundSchedule, sound}
+use Rattle.schedule_checks.proofs.SoundSchedule.{SoundSchedule, sound}
 use Rattle.file_writer.specs.FileBytes.{file_bytes}
 use Rattle.file_writer.proofs.Room.{file_long, fault_refused, too_short, long_enough}
 use borrow.Author.Rules.{rules}

@@ -2,7 +2,7 @@ use native.Mathlib.Omega.{arith}
 use Prim.Native.Nat.{◌+◌, ◌≤◌}
 use mathlib.Core.Path.{refl}
 use lib.ListN.{length}
-use Rattle.file_writer.specs.Lengths.{length_gap, no_gap}
+use Rattle.file_writer.proofs.Lengths.{length_gap, no_gap}
 use Rattle.file_writer.proofs.Stores.{gap_stored}
 use borrow.Author.Rules.{rules}
 use Rattle.file_writer.proofs.put_gap.Goals as goal

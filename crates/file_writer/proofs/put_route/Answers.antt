@@ -4,7 +4,7 @@ use mathlib.Core.Path.{◌≡◌, sym}
 use lib.ListN.{length, length-map}
 use lib.Seq.{length-take-le}
 use Rattle.schedule.specs.Schedules.{places_of}
-use Rattle.file_writer.specs.Lengths.{length_chain}
+use Rattle.file_writer.proofs.Lengths.{length_chain}
 use Rattle.file_writer.proofs.Stores.{chain_stored}
 use borrow.Author.Rules.{rules}
 use Rattle.file_writer.proofs.put_route.Goals as goal

@@ -5,7 +5,7 @@ use lib.ListN.{length, get_or}
 use lib.Seq.{sets}
 use Rattle.schedule.specs.Schedules.{places_of, no_route}
 use Rattle.file_writer.specs.FileBytes.{chain_bytes}
-use Rattle.schedule_checks.specs.SoundSchedule.{placed_front}
+use Rattle.schedule_checks.proofs.SoundSchedule.{placed_front}
 use Rattle.file_writer.proofs.Stores.{run_long, left, left_long, left_none, routes_turn}
 use borrow.Author.Rules.{rules}
 use Rattle.file_writer.proofs.put_routes.Given as goal

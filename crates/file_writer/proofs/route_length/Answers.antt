@@ -3,7 +3,7 @@ use mathlib.Core.Path.{◌≡◌}
 use lib.ListN.{length, length-map}
 use lib.Seq.{length-take-le}
 use Rattle.schedule.specs.Schedules.{places_of}
-use Rattle.file_writer.specs.Lengths.{length_chain}
+use Rattle.file_writer.proofs.Lengths.{length_chain}
 use borrow.Author.Rules.{rules}
 use Rattle.file_writer.proofs.route_length.Goals as goal
 

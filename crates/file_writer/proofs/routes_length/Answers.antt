@@ -2,7 +2,7 @@ use native.Mathlib.Omega.{arith}
 use Prim.Native.Nat.{◌+◌, ◌-◌, ◌*◌, ◌≤◌}
 use mathlib.Core.Path.{◌≡◌, ap}
 use lib.ListN.{length}
-use Rattle.schedule_checks.specs.SoundSchedule.{placed_front}
+use Rattle.schedule_checks.proofs.SoundSchedule.{placed_front}
 use Rattle.file_writer.proofs.Stores.{left, left_long, left_none}
 use borrow.Author.Rules.{rules}
 use Rattle.file_writer.proofs.routes_length.Goals as goal

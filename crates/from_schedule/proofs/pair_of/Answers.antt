@@ -1,7 +1,7 @@
 use mathlib.Core.Path.{◌≡◌, sym, ap, ◌∙◌}
 use Rattle.refusal.specs.declared.Refusal.{Refusal}
 use Rattle.schedule_checks.specs.Checks.{fault_of}
-use Rattle.schedule_checks.specs.ChosenChain.{fault_answers, choice_refused, choice_made}
+use Rattle.schedule_checks.proofs.ChosenChain.{fault_answers, choice_refused, choice_made}
 use borrow.Author.Rules.{rules}
 use Rattle.from_schedule.proofs.pair_of.Goals as goal
 use Rattle.from_schedule.proofs.pair_of.Goals.{Else-r-ne0}

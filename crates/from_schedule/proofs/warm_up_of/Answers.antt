@@ -1,5 +1,5 @@
 use mathlib.Core.Path.{◌∙◌}
-use Rattle.schedule_checks.specs.ChosenChain.{choice_refused, choice_made}
+use Rattle.schedule_checks.proofs.ChosenChain.{choice_refused, choice_made}
 use Rattle.timing.specs.Answers.{warm_up_after}
 use borrow.Author.Rules.{rules}
 use Rattle.from_schedule.proofs.warm_up_of.Goals as goal

@@ -4,7 +4,8 @@ use Rattle.table.specs.WellFormed.{next_start}
 use Rattle.table.specs.BothWays.{Fitting, well_place}
 use Rattle.figures.specs.ByAnchors.{segments}
 use Rattle.figures.proofs.Folds.{fold_on, fold_end}
-use Rattle.histogram.specs.Differences.{with_anchor, length_range}
+use Rattle.histogram.specs.Differences.{with_anchor}
+use Rattle.histogram.proofs.Differences.{length_range}
 use Rattle.histogram.proofs.add_anchors.Given as goal
 
 abbrev pub invariant-loop-i : goal.invariant-loop-i

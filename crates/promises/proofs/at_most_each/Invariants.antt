@@ -5,7 +5,7 @@ use borrow.Author.Tests.{le-leb, lt-leb}
 use lib.Dec.{leb}
 use lib.ListN.{length, drop}
 use Rattle.bounded.specs.Bounded.{pairwise}
-use Rattle.bounded.specs.Same.{pair_on, pair_off, pair_end}
+use Rattle.bounded.proofs.SameLaws.{pair_on, pair_off, pair_end}
 use Rattle.promises.proofs.at_most_each.Given as goal
 
 abbrev pub invariant-loop-i : goal.invariant-loop-i

@@ -4,7 +4,7 @@ use mathlib.Core.Path.{◌≡◌, refl, sym, ◌∙◌}
 use lib.ListN.{drop}
 use Rattle.schedule.specs.Arrays.{Arrays}
 use Rattle.schedule.proofs.ArrayLaws.{arrays}
-use Rattle.schedule_checks.specs.SoundSchedule.{SoundSchedule, sound}
+use Rattle.schedule_checks.proofs.SoundSchedule.{SoundSchedule, sound}
 use Rattle.promises.specs.Promises.{chains_of, hyper_refusal}
 use Rattle.promises.proofs.Turns.{turn_on, turn_off, turn_end}
 use borrow.Author.Rules.{rules}

@@ -8,7 +8,7 @@ use Rattle.schedule.proofs.ArrayLaws.{arrays}
 use Rattle.schedule.specs.Schedules.{padded}
 use Rattle.schedule.specs.Padding.{padded_none}
 use Rattle.promises.specs.Promises.{chains_of, chain_latency}
-use Rattle.promises.specs.EveryChain.{checks_sound}
+use Rattle.promises.proofs.EveryChain.{checks_sound}
 use Rattle.promises.proofs.Turns.{chain_accepted, latency_stored, latencies_end}
 use borrow.Author.Rules.{rules}
 use Rattle.promises.proofs.latencies_of.Given as goal

@@ -2,7 +2,7 @@ use native.Mathlib.Omega.{arith}
 use Prim.Native.Nat.{◌≤◌}
 use mathlib.Core.Path.{sym, ap, ◌∙◌}
 use Rattle.schedule_checks.specs.Checks.{none_chosen}
-use Rattle.schedule_checks.specs.SoundSchedule.{sound, count_right_holds}
+use Rattle.schedule_checks.proofs.SoundSchedule.{sound, count_right_holds}
 use Rattle.schedule_checks.proofs.Choice.{chain_chosen, number_refused}
 use borrow.Author.Rules.{rules}
 use Rattle.schedule_checks.proofs.chain_in.Goals as goal

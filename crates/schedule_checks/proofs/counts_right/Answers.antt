@@ -1,6 +1,6 @@
 use mathlib.Core.Path.{sym, ◌∙◌}
 use Rattle.schedule_checks.specs.Checks.{counts_right}
-use Rattle.schedule_checks.specs.SoundSchedule.{count_right_holds}
+use Rattle.schedule_checks.proofs.SoundSchedule.{count_right_holds}
 use Rattle.schedule_checks.proofs.counts_right.Goals as goal
 
 pub places_right-requires : goal.places_right-requires

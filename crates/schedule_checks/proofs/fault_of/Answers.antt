@@ -7,7 +7,7 @@ use lib.ListN.{length, take, length-map}
 use Rattle.schedule.specs.Schedules.{number_of, tasks_in, chains_in}
 use Rattle.schedule.proofs.PlaceLaws.{map_take}
 use Rattle.schedule_checks.specs.Checks.{counts_right, unknown_place}
-use Rattle.schedule_checks.specs.SoundSchedule.{Counted, counted}
+use Rattle.schedule_checks.proofs.SoundSchedule.{Counted, counted}
 use Rattle.schedule_checks.proofs.Faults.{counts_wrong, task_fault, gap_fault, place_fault, all_right_holds}
 use borrow.Author.Rules.{rules}
 use Rattle.schedule_checks.proofs.fault_of.Goals as goal

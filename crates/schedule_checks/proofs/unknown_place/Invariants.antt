@@ -7,7 +7,7 @@ use Rattle.chain.proofs.Front.{front_cons, front_end}
 use borrow.Author.Rules.{rules}
 use Rattle.schedule.specs.Schedules.{places_of, no_route}
 use Rattle.schedule_checks.specs.Checks.{unknown_place}
-use Rattle.schedule_checks.specs.SoundSchedule.{placed_front}
+use Rattle.schedule_checks.proofs.SoundSchedule.{placed_front}
 use Rattle.schedule_checks.proofs.Faults.{chains_past, chains_here, chains_none}
 use Rattle.schedule_checks.proofs.unknown_place.Given as goal
 

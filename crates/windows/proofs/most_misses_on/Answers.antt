@@ -9,7 +9,7 @@ use Rattle.timing.specs.WarmUp.{warm_at}
 use Rattle.timing.proofs.Entries.{no_job}
 use Rattle.timing.proofs.Exits.{entry_job}
 use Rattle.windows.specs.Windows.{after_limits}
-use Rattle.windows.specs.Answered.{passed}
+use Rattle.windows.proofs.Answered.{passed}
 use Rattle.windows.proofs.Exits.{judged_in, windows_refused, Call, period_pos, some_start, last_small, look_runs, windows_full, windows_most}
 use borrow.Author.Rules.{rules}
 use Rattle.windows.proofs.most_misses_on.Goals as goal

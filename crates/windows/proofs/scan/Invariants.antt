@@ -3,7 +3,7 @@ use Prim.Native.Nat.{ℕ, ◌+◌, ◌-◌, ◌≤◌, ◌<◌}
 use mathlib.Core.Path.{◌≡◌, refl, sym}
 use Rattle.chain.specs.Flat.{tasks_in}
 use Rattle.ranges.specs.Largest.{largest}
-use Rattle.ranges.specs.LargestLaws.{largest_none, largest_more}
+use Rattle.ranges.proofs.LargestLaws.{largest_none, largest_more}
 use Rattle.windows.specs.Windows.{misses, misses_in, window_of}
 use Rattle.windows.specs.Scan.{Ring}
 use Rattle.windows.specs.Sliding.{none_yet, enters, leaves, grows, at_most}

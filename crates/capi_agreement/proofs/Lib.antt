@@ -1,0 +1,2 @@
+pub mod ChosenChain
+pub mod TablesAndWalks

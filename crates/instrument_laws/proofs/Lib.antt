@@ -1,0 +1,3 @@
+pub mod Calls
+pub mod EveryList
+pub mod Order10

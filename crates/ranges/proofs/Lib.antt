@@ -1,0 +1,2 @@
+pub mod LargestLaws
+pub mod LeastLaws
