@@ -174,6 +174,7 @@ fn end_record(long: u64, chains: usize) -> Record
 }
 
 // The gap record of order 5.
+#[tactic(auto, unfolding(crate::specs::Reading::gap_record))]
 fn gap_record(rest: &[u8], long: u64, chains: usize, gap: u64) -> Record
     requires { (long ≡ length_field rest.now) × (long ≤ length rest.now) }
     ensures { result ≡ gap_record chains gap rest.now }

@@ -114,6 +114,7 @@ fn sum_up(counts: &mut [u64], whole: u64) -> u64
 }
 
 // Counts the delays: entry i of `counts` gets those from i × width up to below (i + 1) × width; refusals 14, 18.
+#[tactic(auto, unfolding(crate::specs::Histogram::histogram_of, crate::specs::Histogram::counts_of))]
 pub fn histogram_of(
     starts: &[u64],
     latencies: &[u64],

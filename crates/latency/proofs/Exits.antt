@@ -21,6 +21,10 @@ use Rattle.latency.specs.AnyCut.{any_cut}
 use Rattle.latency.specs.AnyRange.{any_range}
 use Rattle.latency.specs.Walk.{Met, MetAll, RangeFrom, MetFrom}
 
+-- the place that the chain is cut at has a period
+pub place_pos : (l : List Place) (p h : ℕ) (t : Place) → AcceptedAt l p h → t ≡ at l p → 1 ≤ t.period
+place_pos l p h t k e = rw e (k.sound.each p k.inside).period_pos
+
 module _ (l : List Place) (p h : ℕ) (k : AcceptedAt l p h) where
   module _ (m n : ℕ) (w : m ≡ warm_at l p) (u : n ≡ h / (at l p).period) where
     pub range_of_holds : (places : ℕ) → places ≡ length l → Range l places p m n

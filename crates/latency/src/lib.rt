@@ -132,6 +132,7 @@ fn walk_from(
 }
 
 // Walks the range of a list whose hyperperiod is h, cut at place p.
+#[tactic(auto, using(crate::proofs::Exits::place_pos))]
 fn walk_range(tasks: &[u64], gap: u64, p: usize, h: u64, bound: u64) -> Greatest
     requires { AcceptedAt (tasks_in gap tasks.now) p h }
     ensures { MetAll (tasks_in gap tasks.now) p h bound result }

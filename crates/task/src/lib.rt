@@ -42,6 +42,7 @@ pub enum Latest {
 
 impl Task {
     // Whether period, duration and phase are inside document 01's limits.
+    #[tactic(auto, unfolding(crate::specs::Jobs::within_limits))]
     pub fn within_limits(self) -> bool
         ensures { result ≡ within_limits self }
     {

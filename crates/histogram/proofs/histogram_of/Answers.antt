@@ -15,13 +15,9 @@ formed c = well _ _ _ _ _ c.is_well_formed.ensures c.if-not-is_well_formed.false
 pub returns-then-not-is_well_formed : goal.returns-then-not-is_well_formed
 returns-then-not-is_well_formed c = not_formed _ _ _ _ _ _ (sym c.is_well_formed.ensures ∙ not-true c.is_well_formed.result (ap not c.if-not-is_well_formed.true))
 
-pub returns-then-width-lt1 : goal.returns-then-width-lt1
-returns-then-width-lt1 c = no_width _ _ _ _ _ _ (formed (goal.at.returns-then-width-lt1 c).Else-not-is_well_formed) (omega (arith, c.if-width-lt1.true))
-
 pub add_anchors-requires : goal.add_anchors-requires
-add_anchors-requires c = let e = c.before in (formed (goal.at.add_anchors-requires c).Else-not-is_well_formed, omega (arith, c.smaller.ensures, e.if-width-lt1.false))
+add_anchors-requires c = (formed (goal.at.add_anchors-requires c).Else-not-is_well_formed, omega (arith, c.smaller.ensures))
 
 pub returns : goal.returns
 returns c =
-    let e = c.before in
-    counted _ _ _ _ _ _ (formed (goal.at.returns c).Else-not-is_well_formed) e.if-width-lt1.false c.clear.ensures c.smaller.ensures c.add_anchors.ensures c.sum_up.ensures (omega arith)
+    counted _ _ _ _ _ _ (formed (goal.at.returns c).Else-not-is_well_formed) (omega arith) c.clear.ensures c.smaller.ensures c.add_anchors.ensures c.sum_up.ensures (omega arith)

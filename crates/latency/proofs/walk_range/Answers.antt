@@ -8,11 +8,6 @@ use Rattle.latency.proofs.Exits.{range_of_holds, met_range}
 use borrow.Author.Rules.{rules}
 use Rattle.latency.proofs.walk_range.Goals as goal
 
-pub nonzero_div-h : goal.nonzero_div-h
-nonzero_div-h c =
-    let s = c.before in
-    omega (arith, ap (λ (x : Place). x.period) c.task_at-t.ensures, (s.requires.sound.each s.args.p s.requires.inside).period_pos)
-
 pub walk_from-requires : goal.walk_from-requires
 walk_from-requires c =
     let s = c.before in
