@@ -10,7 +10,7 @@
  * lists that a call writes lie apart from each other and from all else that is lent to it: the compiled code counts on that, so where they
  * overlap the answers may be wrong and the call may even stop the program. Nothing that a call was proved to do holds then.
  *
- * Archives, each made by `rt staticlib NAME`; they can be linked together:
+ * Archives, made by host/archives below target/staticlib; they can be linked together:
  *   libtable.a          mo_read_table
  *   libcapi_figures.a   mo_greatest, mo_low, mo_mean, mo_throughput, mo_exceedance
  *   libcapi_histogram.a mo_histogram
@@ -27,8 +27,8 @@
  * libcapi_file.a, libcapi_bookings.a, libcapi_phase.a, libcapi_instrument.a and libcapi_report.a need memcpy and memset from the C library, libcapi_maker.a, libcapi_windows.a,
  * libcapi_sections.a, libcapi_histogram.a and libcapi_load.a memset; the other three need nothing (`nm -u` on an archive tells; tests/c/run looks).
  *
- * The archives are for x86-64, in position-independent code that uses its SSE2 registers. The toolchain compiles for no other processor
- * today: the proofs say nothing of a processor, and the back end that turns proved code into machine code has this one target. On an
+ * The archives are for x86-64, in position-independent code that uses its SSE2 registers. The proofs say nothing of a processor, but the
+ * toolchain has only a few back ends that turn proved code into machine code, and of these only the one for x86-64 is tried here. On an
  * instrument with another processor the calls wait for such a back end; until then they serve hosts, which may work the table out and
  * hand the instrument its anchors.
  *
@@ -54,7 +54,7 @@
  * mo_make_state and mo_ask walk, of each chain, h / T partitions, T being its longest period, and make no list: 0.20 to 0.26 s in six calls with
  * four chains of 3,063,060 partitions of twelve places. They walk all chains before they look at a bound, so a refusal with MO_ABOVE_BOUND takes as long as an answer; every other
  * refusal comes before any walk. mo_commit walks nothing: 0.4 microseconds, as an ask that is refused at once; mo_bounded_schedule takes 0.1.
- * (One run on a server's processor; an instrument's takes longer.) Nothing else that is lent makes a call take long.
+ * (One run on a server's processor, with the older toolchain; an instrument's takes longer.) Nothing else that is lent makes a call take long.
  *
  * Stack. What each call needs below its caller's frame, in bytes, is MO_STACK_ below: measured on x86-64 and rounded up, not proved. The structs
  * that a call takes and gives by value are in it, and the C library's memcpy and memset, but not the dynamic linker, which a program that binds
@@ -81,15 +81,15 @@ extern "C" {
 #define MO_STACK_WINDOWS 1216u
 #define MO_STACK_SECTIONS 1024u
 #define MO_STACK_LOAD 448u
-#define MO_STACK_READ_FILE 3136u
-#define MO_STACK_WRITE_FILE 5248u
-#define MO_STACK_CHAIN_OF_SCHEDULE 7232u
-#define MO_STACK_BOOKINGS 8896u
+#define MO_STACK_READ_FILE 3520u
+#define MO_STACK_WRITE_FILE 6080u
+#define MO_STACK_CHAIN_OF_SCHEDULE 8000u
+#define MO_STACK_BOOKINGS 9024u
 #define MO_STACK_SMALLEST_PHASE 9024u
 #define MO_STACK_BOUNDED_SCHEDULE 3136u /* 1,496 of it for the struct handed back */
-#define MO_STACK_MAKE_STATE 19072u /* 4,512 of it for the structs handed to the call and back */
-#define MO_STACK_ASK 22080u /* 7,544 of it for the structs handed to the call and back */
-#define MO_STACK_COMMIT 12352u /* 7,512 of it for the structs handed to the call and back */
+#define MO_STACK_MAKE_STATE 27584u /* 4,512 of it for the structs handed to the call and back */
+#define MO_STACK_ASK 30592u /* 7,544 of it for the structs handed to the call and back */
+#define MO_STACK_COMMIT 22208u /* 7,512 of it for the structs handed to the call and back */
 #define MO_STACK_REPORT 22848u
 
 /*

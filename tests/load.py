@@ -56,11 +56,7 @@ def part(function):
 def build():
     """The programs, proved and linked anew where a file of the crates is newer."""
     reports.build()
-    sources = [os.path.join(TOP, "crates.txt")]
-    for folder, _, names in os.walk(os.path.join(TOP, "crates")):
-        sources += [os.path.join(folder, name) for name in names]
-    if not os.path.exists(PROGRAM) or os.path.getmtime(PROGRAM) < max(map(os.path.getmtime, sources)):
-        subprocess.run(["rt", "check", "chainload"], check=True, cwd=TOP, stdout=subprocess.DEVNULL)
+    reports.build(PROGRAM)
 
 
 def ran(command, **how):
@@ -332,16 +328,19 @@ def beside(program=None, rt=None):
     """The script in a folder of its own with older crates, beside chainload or a program of these lines, and with a command rt of these lines or none: the way to call it, and the folder."""
     with tempfile.TemporaryDirectory() as kept:
         folder, tools = os.path.join(kept, "in it"), os.path.join(kept, "tools")
-        for path in (tools, os.path.join(folder, "target", "bin"), os.path.join(folder, "crates", "one")):
+        for path in (tools, os.path.join(folder, "target", "bin"), os.path.join(folder, "crates", "one"), os.path.join(folder, "crates", "chainload"), os.path.join(folder, "host")):
             os.makedirs(path)
         shutil.copy(SCRIPT, folder)
+        for name in ("fresh", "program"):
+            shutil.copy(os.path.join(TOP, "host", name), os.path.join(folder, "host"))
         put(os.path.join(folder, "target", "bin", "chainload"), program or f"exec {shlex.quote(PROGRAM)} \"$@\"")
         for name in ("crates.txt", "crates/one/lib.rt"):
             open(os.path.join(folder, name), "wb").close()
-        for name in ("crates.txt", "crates/one/lib.rt", "crates/one", "crates"):
+        shutil.copy(os.path.join(TOP, "crates", "chainload", "args"), os.path.join(folder, "crates", "chainload"))
+        for name in ("crates.txt", "crates/one/lib.rt", "crates/chainload/args", "crates/one", "crates/chainload", "crates"):
             os.utime(os.path.join(folder, name), (10**9, 10**9))
-        # What the script and the lines call, and no more.
-        for tool in ("bash", "sh", "dirname", "realpath", "find", "mkdir", "tail", "rm", "cp"):
+        # What the scripts and the lines call, and no more.
+        for tool in ("bash", "sh", "dirname", "realpath", "find", "mkdir", "tail", "rm", "cp", "mv", "touch", "test"):
             os.symlink(shutil.which(tool), os.path.join(tools, tool))
         if rt is not None:
             put(os.path.join(tools, "rt"), rt)
@@ -350,7 +349,7 @@ def beside(program=None, rt=None):
 
 
 # A command rt that keeps what it is asked, says something and puts the program in its place.
-BUILDS = f"echo \"$(pwd -P): $*\" >>asked; echo noise; echo noise >&2; mkdir -p target/bin && rm -f target/bin/chainload && cp {shlex.quote(PROGRAM)} target/bin"
+BUILDS = f"echo \"$(pwd -P): $*\" >>../../asked; echo noise; echo noise >&2; mkdir -p out && rm -f out/chainload && cp {shlex.quote(PROGRAM)} out"
 
 
 @part
@@ -419,12 +418,19 @@ def building(r, factor):
             yield f"before {what}", (load(*words), held(folder).get(os.path.join(folder, "asked"))), (loaded(words), None)
             change(folder)
             yield what, load(*words), (*loaded(words)[:2], BUILDING)
-            yield f"what rt is asked with {what}", held(folder).get(os.path.join(folder, "asked")), os.fsencode(f"{os.path.realpath(folder)}: check chainload\n")
+            yield f"what rt is asked with {what}", held(folder).get(os.path.join(folder, "asked")), os.fsencode(f"{os.path.realpath(folder)}/crates/chainload: run -- 7 3\n")
             # Words are counted before that.
             yield f"one word, with {what}", (load(b"0"), held(folder).get(os.path.join(folder, "asked"), b"").count(b"\n")), (loaded([b"0"]), 1)
         with beside() as (load, folder):
             change(folder)
             yield f"{what}, and no rt", load(*words), (2, b"", b"load: the command rt, of the Rattle toolchain, is missing\n")
+    with beside() as (load, folder):
+        kept = os.path.join(folder, "crates", "one", "out")
+        os.mkdir(kept)
+        put(os.path.join(kept, "some"), "")
+        for path in (os.path.join(kept, "some"), kept, os.path.dirname(kept)):
+            os.utime(path, (late, late))
+        yield "what rt keeps of a crate newer, and no rt", load(*words), loaded(words)
     with beside(rt="for i in 1 2 3 4 5 6 7 8 9 10 11; do echo said $i; echo told $i >&2; done; exit 1") as (load, folder):
         os.utime(os.path.join(folder, "crates.txt"), (late, late))
         last = b"".join(b"said %d\ntold %d\n" % (i, i) for i in range(2, 12))

@@ -36,13 +36,12 @@ def group(function):
     return function
 
 
-def build():
+def build(program=PROGRAM):
     """The program, proved and linked anew where a file of the crates is newer."""
-    sources = [os.path.join(TOP, "crates.txt")]
-    for folder, _, names in os.walk(os.path.join(TOP, "crates")):
-        sources += [os.path.join(folder, name) for name in names]
-    if not os.path.exists(PROGRAM) or os.path.getmtime(PROGRAM) < max(map(os.path.getmtime, sources)):
-        subprocess.run(["rt", "check", "chainreport"], check=True, cwd=TOP, stdout=subprocess.DEVNULL)
+    if subprocess.run([os.path.join(TOP, "host", "fresh"), program]).returncode:
+        made = subprocess.run([os.path.join(TOP, "host", "program"), os.path.basename(program)], stdout=subprocess.PIPE, stderr=subprocess.STDOUT)
+        if made.returncode:
+            sys.exit(made.stdout.decode(errors="replace"))
 
 
 def printed(data):
