@@ -1,4 +1,4 @@
--- The same question of a list of tasks, one for each place, and the numbers of the tasks that fill the places: what the code works on. That a schedule's chain has this answer is `in_List` in MovedSchedule.
+-- The same question of a list of tasks, one for each place, and the numbers of the tasks that fill the places: what the code works on. That a schedule's chain has this answer is `in_list` in MovedSchedule.
 use Rattle.std.specs.Prelude.{ℕ, ◌*◌, ◌/◌, ◌≤◌, ◌<◌, ◌≡◌, Bool, cond, List, leb, length, get_or}
 use Rattle.std.specs.Int.{◌∣◌}
 use Rattle.refusal.specs.Refusals.{refusal}
