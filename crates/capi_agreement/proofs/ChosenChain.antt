@@ -107,19 +107,23 @@ module _ (tasks : List ℕ) (count : ℕ) (chains places : List ℕ) (total gap 
     in_schedule = choice_sound s number zero_number
 
     -- Code 0: the calls on chains, given the schedule's gap, get the chain with that number,
-    pub chosen_for_c : chain_from flat held gap ≡ chain_at s number
-    chosen_for_c =
+    -- (what follows cites `is_chosen`, so that an edit of the theorem is refused at the theorem)
+    is_chosen : chain_from flat held gap ≡ chain_at s number
+    is_chosen =
         let a = from_arrays tasks count chains places total gap in
         let k = in_schedule in
         let p = sound_placed s a k.0 number k.1 k.2 in
         same ∙ ap (λ (c : Chain). chain_from (flat_chain c.tasks) c.places gap) (chosen_chain s number zero_number)
         ∙ chain_given_back (chain_at s number) (sound_twelve s a k.0 number k.1 k.2) p.1
 
+    pub chosen_for_c : chain_from flat held gap ≡ chain_at s number
+    chosen_for_c = is_chosen
+
     -- and of its checks only 7 can refuse it.
     pub chosen_checked : verdict_of (chain_from flat held gap) ≡ hyper_verdict (tasks_of (chain_from flat held gap))
     chosen_checked =
         let k = in_schedule in
-        rw chosen_for_c (sound_chain s (from_arrays tasks count chains places total gap) k.0 number k.1 k.2)
+        rw is_chosen (sound_chain s (from_arrays tasks count chains places total gap) k.0 number k.1 k.2)
 
   -- number 0 has place 0
   none_code : (choice_of s number).number ≡ 0 → code_of (choice_of s number) ≡ 0
@@ -155,4 +159,4 @@ module _ (b : List ℕ) (is : Bytes b) (code : ℕ) (ts ch pl : List ℕ) (n m g
       let c : m ≡ (read_file b).schedule.chains = ap (λ (l : List ℕ). get_or l 1 0) reads.gives_counts in
       let z : choice_of (read_file b).schedule number ≡ none = choice_there (read_file b).schedule number sound_read low (omega arith) in
       let k : code' ≡ 0 = gives.answers ∙ ap code_of (choice_same (schedule_from us n vs ws m gap) (read_file b).schedule same_read number ∙ z) in
-      (k, chosen_for_c us n vs ws m gap number code' flat held gives k ∙ chain_same (schedule_from us n vs ws m gap) (read_file b).schedule same_read number)
+      (k, is_chosen us n vs ws m gap number code' flat held gives k ∙ chain_same (schedule_from us n vs ws m gap) (read_file b).schedule same_read number)

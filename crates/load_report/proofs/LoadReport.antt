@@ -89,9 +89,12 @@ module _ (seed places : ℕ) (low : 1 ≤ places) (high : places ≤ 12) where
     pub one_anchor : anchor_count c p h ≡ 1
     one_anchor = omega (arith, once, some_anchor, count_few c p h 1 1 (asked 1) (twelve_tasks seed places low high) q inside)
 
-    -- Lists of one entry, or of more, hold it.
+    -- Lists of one entry, or of more, hold it. What follows cites `table_whole`, so that an edit of the theorem is refused at the theorem.
+    table_whole : (a : ℕ) → 1 ≤ a → made_of c p a a ≡ Whole (figures_of c p h)
+    table_whole a some = room_enough c p h a a (asked a) (twelve_tasks seed places low high) q inside (omega (arith, once))
+
     pub whole_table : (a : ℕ) → 1 ≤ a → made_of c p a a ≡ Whole (figures_of c p h)
-    whole_table a some = room_enough c p h a a (asked a) (twelve_tasks seed places low high) q inside (omega (arith, once))
+    whole_table a some = table_whole a some
 
   -- The report of its file.
   pub load_report_holds : report_of (file_of_load seed places) ≡ line (ascii "chain") (1 ∷ []) ++ text_of_table (figures_of c (longest_place l) h) (written_of c (longest_place l) 1024 1024)
@@ -100,7 +103,7 @@ module _ (seed places : ℕ) (low : 1 ≤ places) (high : places ≤ 12) where
       ap file_text (load_read seed places low high)
       ∙ append-nil (part_text 1024 1 (chain_at (alone_of c) 1))
       ∙ ap (part_text 1024 1) (load_chain seed places low high)
-      ∙ ap (λ (m : Made). line (ascii "chain") (1 ∷ []) ++ made_text m (written_of c (longest_place l) 1024 1024)) (whole_table (longest_place l) longest.some (omega (arith, longest.inside, counted)) 1024 (omega arith))
+      ∙ ap (λ (m : Made). line (ascii "chain") (1 ∷ []) ++ made_text m (written_of c (longest_place l) 1024 1024)) (table_whole (longest_place l) longest.some (omega (arith, longest.inside, counted)) 1024 (omega arith))
 
 -- The same for C, of what mo_load gives with code 0.
 module _ (seed places code : ℕ) (tasks : List ℕ) (gives : GivesLoad seed places code tasks) (fine : code ≡ 0) where
@@ -118,7 +121,7 @@ module _ (seed places code : ℕ) (tasks : List ℕ) (gives : GivesLoad seed pla
       let k = places_for_c seed places code tasks gives fine in
       let whole : made_of (chain_from tasks places 0) p (length s) (length v) ≡ Whole (figures_of (c seed places k.0 k.1) p (h seed places k.0 k.1))
       = ap (λ (x : Chain). made_of x p (length s) (length v)) (load_for_c seed places code tasks gives fine) ∙ ap (made_of (load_of seed places).chain p (length s)) (sym equal)
-      ∙ whole_table seed places k.0 k.1 p from to (length s) some in (
+      ∙ table_whole seed places k.0 k.1 p from to (length s) some in (
         table.answers ∙ ap made_code whole,
         ap (λ (l : List ℕ). get_or l 0 0) (table.gives_figures ∙ ap made_numbers whole) ∙ one_anchor seed places k.0 k.1 p from to,
       )
