@@ -15,7 +15,7 @@ STEP = os.path.join("crates", "stepping", "src", "lib.rt")
 # What else a turn of the loops over the partitions runs, that of making and that of the greatest latency.
 BESIDE = [
     (os.path.join("crates", "maker", "src", "lib.rt"), ("walk", "add_anchor", "last_end", "store")),
-    (os.path.join("crates", "latency", "src", "lib.rt"), ("walk", "larger", "latency_of")),
+    (os.path.join("crates", "latency", "src", "lib.rt"), ("walk", "latency_of")),
     (os.path.join("crates", "chain", "src", "lib.rt"), ("task_at", "given_at")),
     (os.path.join("crates", "task", "src", "lib.rt"), ("read", "write")),
 ]

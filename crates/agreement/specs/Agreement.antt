@@ -1,41 +1,36 @@
 -- The third demand, sentence by sentence, about every chain whose array has its twelve entries. A table is completed where making is
 -- not refused; it is read with the g and H that making answered and the lists as making left them, whatever they held before and hold from g on. Order 5 of document 02: "The agreement of walk, age and tables is for chains with any permitted gap." The gap is a field of the chain, and what refuses it, 5, is one of its checks.
-use Rattle.std.specs.Prelude.{ℕ, zero, suc, ◌≤◌, ◌<◌, ◌≡◌, refl, true, length, get_or}
+use Rattle.std.specs.Prelude.{ℕ, zero, suc, ◌≤◌, ◌<◌, ◌≡◌, refl, true, length, get_or, Ok, Result}
 use Rattle.std.proofs.Common.{arith, sym, ap, ◌∙◌, subst}
 use mathlib.Core.List.{List, [], ◌∷◌}
 use Rattle.std.proofs.lemmas.List.{length-map}
 use borrow.Author.Tests.{le-ltb}
+use Rattle.refusal.specs.declared.Refusal.{Refusal}
 use Rattle.chain.specs.declared.Chain.{Chain}
 use Rattle.chain.specs.Chains.{tasks_of}
 use Rattle.chain.specs.Hyperperiod.{hyper_of}
-use Rattle.timing.specs.declared.Span.{Span}
-use Rattle.timing.specs.declared.Span.TheVariants.{Ticks}
 use Rattle.timing.specs.WarmUp.{warm_tick}
 use Rattle.timing.specs.Delay.{delay_at, first_aged, age_at}
 use Rattle.timing.specs.Answers.{upper_tick, delay_of, age_of}
 use Rattle.timing.specs.Spans.{span_there}
 use Rattle.table.specs.Anchors.{Anchor, anchors, first_start}
-use Rattle.table.specs.declared.Reading.{Reading}
-use Rattle.table.specs.declared.Reading.TheVariants.{Delay}
 use Rattle.table.specs.WellFormed.{well_formed}
 use Rattle.table.specs.Reading.{reading}
 use Rattle.table.specs.Reading as table
 use Rattle.table.specs.Figures.{greatest}
-use Rattle.figures.specs.declared.Greatest.TheVariants.{Latency}
 use Rattle.figures.specs.Figures.{greatest_of}
 use Rattle.partition.proofs.CutFree.{canonical}
 use Rattle.maker.specs.declared.Figures.{Figures}
-use Rattle.maker.specs.declared.Made.TheVariants.{Whole}
 use Rattle.maker.specs.Making.{starts_of, latencies_of, overlay, Makes}
 use Rattle.agreement.specs.ReadsAsWalk.{table_walk}
 use Rattle.agreement.specs.GreatestAge.{GreatestWithin, greatest_delay_is, greatest_age_is}
 use Rattle.agreement.specs.MadeTable.{Completed, done, starts_are, latencies_are, made_anchors, made_first, made_well_formed}
 
 -- A delay walked and a delay read are one number; neither is refused.
-pub record SameTicks (span : Span) (reading : Reading) : Type 0 where
+pub record SameTicks (span : Result ℕ Refusal) (reading : Result ℕ Refusal) : Type 0 where
   pub delay : ℕ
-  pub walked : span ≡ Ticks delay
-  pub read : reading ≡ Delay delay
+  pub walked : span ≡ Ok delay
+  pub read : reading ≡ Ok delay
 
 -- "For every accepted chain, every place at which its table is cut and every tick from the warm-up tick to the upper tick, the delay read from
 -- the completed table equals the delay that the forward walk gives at that tick."
@@ -53,9 +48,9 @@ pub record SameAnchors (starts latencies starts'' latencies'' : List ℕ) (f f''
 pub record SameGreatest (c : Chain) (starts latencies : List ℕ) (f : Figures) : Type 0 where
   pub latency : ℕ
   pub greatest_latency_holds : greatest (anchors starts latencies f.anchors) ≡ latency
-  pub answered : greatest_of starts latencies f.anchors f.hyperperiod ≡ Latency latency
-  pub walked : (t : ℕ) → f.tick.0 ≤ t → t ≤ upper_tick → delay_of c t ≡ Ticks (delay_at (tasks_of c) t)
-  pub aged : (z : ℕ) → first_aged (tasks_of c) ≤ z → z ≤ upper_tick → age_of c z ≡ Ticks (age_at (tasks_of c) z)
+  pub answered : greatest_of starts latencies f.anchors f.hyperperiod ≡ Ok latency
+  pub walked : (t : ℕ) → f.tick.0 ≤ t → t ≤ upper_tick → delay_of c t ≡ Ok (delay_at (tasks_of c) t)
+  pub aged : (z : ℕ) → first_aged (tasks_of c) ≤ z → z ≤ upper_tick → age_of c z ≡ Ok (age_at (tasks_of c) z)
   pub greatest_delay : GreatestWithin (delay_at (tasks_of c)) f.tick.0 upper_tick latency
   pub greatest_age : GreatestWithin (λ z. suc (age_at (tasks_of c) z)) (first_aged (tasks_of c)) upper_tick latency
 
@@ -66,14 +61,14 @@ overlay_at (x ∷ xs) (y ∷ ys) zero h g = refl
 overlay_at (x ∷ xs) (y ∷ ys) (suc i) h g = overlay_at xs ys i (omega arith) (omega arith)
 
 module _ (c : Chain) (twelve : length c.tasks ≡ 12) where
-  module _ (p : ℕ) (s v s' v' : List ℕ) (f : Figures) (makes : Makes c p s v s' v' (Whole f)) where
+  module _ (p : ℕ) (s v s' v' : List ℕ) (f : Figures) (makes : Makes c p s v s' v' (Ok f)) where
     pub held : Completed c p (length s) (length v) f
     held = done c twelve p s v s' v' f makes
 
-    pub walks : (t : ℕ) → f.tick.0 ≤ t → t ≤ upper_tick → delay_of c t ≡ Ticks (delay_at (tasks_of c) t)
+    pub walks : (t : ℕ) → f.tick.0 ≤ t → t ≤ upper_tick → delay_of c t ≡ Ok (delay_at (tasks_of c) t)
     walks t low high = rw held.whole (span_there (hyper_of (tasks_of c)) (warm_tick (tasks_of c)) t (delay_at (tasks_of c) t) (omega (arith, held.tick)) high)
 
-    reads : (t : ℕ) → f.tick.0 ≤ t → t ≤ upper_tick → reading s' v' f.anchors f.hyperperiod t ≡ Delay (delay_at (tasks_of c) t)
+    reads : (t : ℕ) → f.tick.0 ≤ t → t ≤ upper_tick → reading s' v' f.anchors f.hyperperiod t ≡ Ok (delay_at (tasks_of c) t)
     unfolding reading
     reads t low high =
         rw (
@@ -84,15 +79,15 @@ module _ (c : Chain) (twelve : length c.tasks ≡ 12) where
           le-ltb upper_tick t high,
           held.hyper,
         )
-        (ap Delay (table_walk (tasks_of c) held.sound t (omega (arith, held.tick))))
+        (ap Ok (table_walk (tasks_of c) held.sound t (omega (arith, held.tick))))
 
-    ages : (z : ℕ) → first_aged (tasks_of c) ≤ z → z ≤ upper_tick → age_of c z ≡ Ticks (age_at (tasks_of c) z)
+    ages : (z : ℕ) → first_aged (tasks_of c) ≤ z → z ≤ upper_tick → age_of c z ≡ Ok (age_at (tasks_of c) z)
     ages z low high = rw held.whole (span_there (hyper_of (tasks_of c)) (first_aged (tasks_of c)) z (age_at (tasks_of c) z) low high)
 
     -- what the figure answers of it
-    pub greatest_answered : greatest_of s' v' f.anchors f.hyperperiod ≡ Latency (greatest (canonical (tasks_of c) (hyper_of (tasks_of c))))
+    pub greatest_answered : greatest_of s' v' f.anchors f.hyperperiod ≡ Ok (greatest (canonical (tasks_of c) (hyper_of (tasks_of c))))
     unfolding greatest_of
-    greatest_answered = rw (made_well_formed c twelve p s v s' v' f makes) (ap (λ (l : List Anchor). Latency (greatest l)) (made_anchors c twelve p s v s' v' f makes))
+    greatest_answered = rw (made_well_formed c twelve p s v s' v' f makes) (ap (λ (l : List Anchor). Ok (greatest l)) (made_anchors c twelve p s v s' v' f makes))
 
     -- A completed table is well-formed.
     pub well_formed_holds : well_formed s' v' f.anchors f.hyperperiod ≡ true
@@ -131,7 +126,7 @@ module _ (c : Chain) (twelve : length c.tasks ≡ 12) where
         rw (latencies_are c twelve p s v s' v' f makes)
         (overlay_at (latencies_of (canonical (tasks_of c) (hyper_of (tasks_of c)))) v i (omega (arith, n, held.count)) (omega (arith, n, held.count, held.fit, held.equal)))
 
-  module _ (p q : ℕ) (s v s' v' : List ℕ) (f : Figures) (makes : Makes c p s v s' v' (Whole f)) (x y x' y' : List ℕ) (g : Figures) (other : Makes c q x y x' y' (Whole g)) where
+  module _ (p q : ℕ) (s v s' v' : List ℕ) (f : Figures) (makes : Makes c p s v s' v' (Ok f)) (x y x' y' : List ℕ) (g : Figures) (other : Makes c q x y x' y' (Ok g)) where
     pub cuts_agree : SameAnchors s' v' x' y' f g
     cuts_agree =
         let n : f.anchors ≡ g.anchors = (held p s v s' v' f makes).count ∙ sym (held q x y x' y' g other).count in

@@ -1,14 +1,13 @@
 -- The greatest latency of a chain's anchors is the greatest delay at any tick from the warm-up tick on (`greatest_delay_is`), and one more than
 -- the greatest age at any tick that has one (`greatest_age_is`). Both are reached before tick 200,000,000.
-use Rattle.std.specs.Prelude.{ℕ, suc, ◌+◌, ◌-◌, ◌*◌, ◌/◌, ◌%◌, ◌≤◌, ◌<◌, ◌≡◌, refl, List}
+use Rattle.std.specs.Prelude.{ℕ, suc, ◌+◌, ◌-◌, ◌*◌, ◌/◌, ◌%◌, ◌≤◌, ◌<◌, ◌≡◌, refl, List, None, Option, Some}
 use Rattle.std.proofs.Math.Nat.{div-add-mod', mod-lt}
 use Rattle.std.proofs.Math.Decide.{dec_lt}
 use native.Mathlib.Omega.{arith}
 use Rattle.std.proofs.Math.Path.{sym, ap}
 use Rattle.std.proofs.Common.{◌∙◌}
+use Rattle.task.specs.declared.Job.{Job}
 use Rattle.task.specs.declared.Place.{Place}
-use Rattle.task.specs.declared.Latest.{Latest}
-use Rattle.task.specs.declared.Latest.TheVariants.{Of, Nothing}
 use Rattle.task.specs.Jobs.{read_of, write_of}
 use Rattle.task.specs.Links.{earliest_after, latest_by}
 use Rattle.task.proofs.LinkLaws.{AtLeast, after_less, read_mono, latest_is}
@@ -39,15 +38,15 @@ pub record GreatestWithin (f : ℕ → ℕ) (low high v : ℕ) : Type 0 where
   pub meets : f at ≡ v
 
 -- the latest job, known from both sides
-exact : (q : Latest) (k : ℕ) → AtLeast q k → (AtLeast q (suc k) → ⊥) → q ≡ Of (record { 0 = k })
-exact (Of i) k h g = go i.0 (eq i.0 h g)
+exact : (q : Option Job) (k : ℕ) → AtLeast q k → (AtLeast q (suc k) → ⊥) → q ≡ Some (record { 0 = k })
+exact (Some i) k h g = go i.0 (eq i.0 h g)
   where
     eq : (x : ℕ) → k ≤ x → (suc k ≤ x → ⊥) → x ≡ k
     eq x a b = elim (dec_lt k x) [ yes c ↦ absurd (b c) | no c ↦ omega arith ]
 
-    go : (x : ℕ) → x ≡ k → Of (record { 0 = x }) ≡ Of (record { 0 = k })
-    go x e = ap (λ (y : ℕ). Of (record { 0 = y })) e
-exact Nothing k h g = absurd h
+    go : (x : ℕ) → x ≡ k → ◌≡◌ {A = Option Job} (Some (record { 0 = x })) (Some (record { 0 = k }))
+    go x e = ap (λ (y : ℕ). Some (record { 0 = y })) e
+exact None k h g = absurd h
 
 module _ (l : List Place) (ok : Sound l) where
   abbrev pub top : ℕ
@@ -114,7 +113,7 @@ module _ (l : List Place) (ok : Sound l) where
   read_bound i h = omega (arith, delay_read l ok i, delay_bound (read_of (at l 0) i) (read_warm l ok i h))
 
   -- where the last place's latest job by z is k, and the way back from k leads to i
-  age_of_holds : (z k i : ℕ) → latest_by (at l (last_place l)) z ≡ Of (record { 0 = k }) → back l k ≡ Of (record { 0 = i }) → age_at l z ≡ z - read_of (at l 0) i
+  age_of_holds : (z k i : ℕ) → latest_by (at l (last_place l)) z ≡ Some (record { 0 = k }) → back l k ≡ Some (record { 0 = i }) → age_at l z ≡ z - read_of (at l 0) i
   unfolding age_at on_latest
   age_of_holds z k i e f = rw (e, f)
 
@@ -127,14 +126,14 @@ module _ (l : List Place) (ok : Sound l) where
       let i : ℕ = b.job.0 in
       let far : k < walk l (suc i) = elim (dec_lt k (walk l (suc i))) [
         | yes g ↦ g
-        | no g ↦ let a : AtLeast (Of b.job) (suc i) = rw b.is at ((way l ok (suc i) k).0 (omega arith)) in absurd (omega arith)
+        | no g ↦ let a : AtLeast (Some b.job) (suc i) = rw b.is at ((way l ok (suc i) k).0 (omega arith)) in absurd (omega arith)
       ] in
       let soon : z < write_of (at l (last_place l)) (suc k) = elim (dec_lt z (write_of (at l (last_place l)) (suc k))) [
         | yes g ↦ g
         | no g ↦ absurd (omega (arith, at_least_job (latest_by (at l (last_place l)) z) (suc k) ((latest_is (at l (last_place l)) last_pos z (suc k)).0 (omega arith)), ap job_of f.is))
       ] in
       let warm : warm_at l 0 ≤ i =
-      let a : AtLeast (Of b.job) (warm_at l 0) = rw b.is at ((way l ok (warm_at l 0) k).0 (omega (arith, walk_warm l ok, warm_walk l ok))) in a in
+      let a : AtLeast (Some b.job) (warm_at l 0) = rw b.is at ((way l ok (warm_at l 0) k).0 (omega (arith, walk_warm l ok, warm_walk l ok))) in a in
       let e : end_walk l (suc i) ≡ write_of (at l (last_place l)) (walk l (suc i)) = refl in
       omega (arith, age_of_holds z k i f.is b.is, read_bound i warm, end_after l ok (suc i), read_mono (at l 0) i (suc i) (omega arith), read_mono (at l (last_place l)) (suc k) (walk l (suc i)) far)
 

@@ -1,13 +1,13 @@
 -- A table as making completed it: its anchors are the chain's, whatever the lists held before and hold from g on, and it is well-formed.
-use Rattle.std.specs.Prelude.{ℕ, suc, ◌+◌, ◌-◌, ◌≤◌, ◌<◌, Bool, true, false, cond, leb}
+use Rattle.std.specs.Prelude.{ℕ, suc, ◌+◌, ◌-◌, ◌≤◌, ◌<◌, Bool, true, false, cond, leb, Err, Ok, Result}
 use Rattle.std.proofs.Common.{arith, ◌∙◌}
 use Rattle.std.proofs.Math.Path.{◌≡◌, refl, ap}
 use mathlib.Core.List.{List, [], ◌∷◌}
 use Rattle.std.proofs.Math.ListN.{length}
 use borrow.Author.Tests.{le-leb, lt-ltb, eq-eqb, leb-true}
+use Rattle.maker.specs.declared.Unmade.TheVariants.{Short}
+use Rattle.refusal.specs.declared.Refusal.{Refusal}
 use Rattle.chain.specs.declared.Chain.{Chain}
-use Rattle.chain.specs.declared.Verdict.{Verdict}
-use Rattle.chain.specs.declared.Verdict.TheVariants as verdict
 use Rattle.chain.specs.Chains.{tasks_of, at}
 use Rattle.chain.specs.Checks.{verdict_of, Sound}
 use Rattle.chain.specs.Hyperperiod.{hyper_of}
@@ -22,7 +22,6 @@ use Rattle.table.specs.Segments.{Spaced}
 use Rattle.partition.specs.Partitions.{anchors_of}
 use Rattle.partition.proofs.CutFree.{canonical, cut_canonical}
 use Rattle.maker.specs.declared.Figures.{Figures}
-use Rattle.maker.specs.declared.Made.TheVariants.{Whole, Short, Refused}
 use Rattle.maker.specs.Making.{judged, figures_of, made_after, made_of, written_after, starts_of, latencies_of, overlay, Makes}
 use Rattle.maker.proofs.Exits.{Well, well}
 use Rattle.agreement.specs.ReadsAsWalk.{first_anchor, other_anchors, canonical_cons}
@@ -61,7 +60,7 @@ measured_so n m g H a b c d e = rw (eq-eqb n m a, le-leb 1 g b, le-leb g n c, le
 -- ---- what a making that completed a table has
 
 pub record Completed (c : Chain) (p a b : ℕ) (f : Figures) : Type 0 where
-  pub whole : verdict_of c ≡ verdict.Accepted (hyper_of (tasks_of c))
+  pub whole : verdict_of c ≡ Ok (hyper_of (tasks_of c))
   pub sound : Sound (tasks_of c)
   pub small : hyper_of (tasks_of c) ≤ 60000000
   pub hyper : f.hyperperiod ≡ hyper_of (tasks_of c)
@@ -69,14 +68,14 @@ pub record Completed (c : Chain) (p a b : ℕ) (f : Figures) : Type 0 where
   pub count : f.anchors ≡ length (canonical (tasks_of c) (hyper_of (tasks_of c)))
   pub fit : f.anchors ≤ a
   pub equal : a ≡ b
-  pub says : judged c p a b ≡ verdict.Accepted (hyper_of (tasks_of c))
+  pub says : judged c p a b ≡ Ok (hyper_of (tasks_of c))
   pub cut : anchors_of (tasks_of c) (p - 1) (hyper_of (tasks_of c)) ≡ canonical (tasks_of c) (hyper_of (tasks_of c))
 
 module _ (c : Chain) (twelve : length c.tasks ≡ 12) where
-  whole_after : (p a b : ℕ) (f : Figures) (v : Verdict) → judged c p a b ≡ v → Whole f ≡ made_after c p a v → Completed c p a b f
+  whole_after : (p a b : ℕ) (f : Figures) (v : Result ℕ Refusal) → judged c p a b ≡ v → Ok f ≡ made_after c p a v → Completed c p a b f
   unfolding made_after judged
-  whole_after p a b f (verdict.Refused r) e q = absurd (let z : ◌≡◌ {A = ℕ} 0 1 = cc in omega arith)
-  whole_after p a b f (verdict.Accepted h) e q = go (leb (length (anchors_of (tasks_of c) (p - 1) h)) a) refl q
+  whole_after p a b f (Err r) e q = absurd (let z : ◌≡◌ {A = ℕ} 0 1 = cc in omega arith)
+  whole_after p a b f (Ok h) e q = go (leb (length (anchors_of (tasks_of c) (p - 1) h)) a) refl q
     where
       w : Well (verdict_of c) c.places p a b h
       w = well (verdict_of c) c.places p a b h e
@@ -87,13 +86,13 @@ module _ (c : Chain) (twelve : length c.tasks ≡ 12) where
       cut : anchors_of (tasks_of c) (p - 1) (hyper_of (tasks_of c)) ≡ canonical (tasks_of c) (hyper_of (tasks_of c))
       cut = cut_canonical (tasks_of c) k.passes.sound (p - 1) (omega (arith, k.passes.counted, w.low, w.high))
 
-      go : (t : Bool) → leb (length (anchors_of (tasks_of c) (p - 1) h)) a ≡ t → Whole f ≡ cond t (Whole (figures_of c p h)) (Short (figures_of c p h)) → Completed c p a b f
+      go : (t : Bool) → leb (length (anchors_of (tasks_of c) (p - 1) h)) a ≡ t → Ok f ≡ cond t (Ok (figures_of c p h)) (Err (Short (figures_of c p h))) → Completed c p a b f
       go false l q = absurd (let z : ◌≡◌ {A = ℕ} 0 1 = cc in omega arith)
       go true l q =
           let s : f ≡ figures_of c p h = cc in
           let n : f.anchors ≡ length (anchors_of (tasks_of c) (p - 1) h) = ap (λ (x : Figures). x.anchors) s in
           record {
-            whole = w.whole ∙ ap verdict.Accepted k.hyper;
+            whole = w.whole ∙ ap Ok k.hyper;
             sound = k.passes.sound;
             small = omega (arith, k.small, k.hyper);
             hyper = ap (λ (x : Figures). x.hyperperiod) s ∙ k.hyper;
@@ -101,14 +100,14 @@ module _ (c : Chain) (twelve : length c.tasks ≡ 12) where
             count = n ∙ ap (λ (x : ℕ). length (anchors_of (tasks_of c) (p - 1) x)) k.hyper ∙ ap length cut;
             fit = omega (arith, n, leb-true (length (anchors_of (tasks_of c) (p - 1) h)) a l);
             equal = w.equal;
-            says = e ∙ ap verdict.Accepted k.hyper;
+            says = e ∙ ap Ok k.hyper;
             cut = cut;
           }
 
-  pub completed : (p a b : ℕ) (f : Figures) → Whole f ≡ made_of c p a b → Completed c p a b f
+  pub completed : (p a b : ℕ) (f : Figures) → Ok f ≡ made_of c p a b → Completed c p a b f
   completed p a b f q = whole_after p a b f (judged c p a b) refl q
 
-  module _ (p : ℕ) (s v s' v' : List ℕ) (f : Figures) (makes : Makes c p s v s' v' (Whole f)) where
+  module _ (p : ℕ) (s v s' v' : List ℕ) (f : Figures) (makes : Makes c p s v s' v' (Ok f)) where
     pub done : Completed c p (length s) (length v) f
     done = completed p (length s) (length v) f makes.answer
 

@@ -1,10 +1,9 @@
 -- Where the greatest latency is met: at the start of an anchor that has it the delay is as great, and at the tick before that press is booked the age is one less.
-use Rattle.std.specs.Prelude.{ℕ, ◌+◌, ◌-◌, ◌≤◌, ◌<◌, ◌≡◌, List, length, get_or}
+use Rattle.std.specs.Prelude.{ℕ, ◌+◌, ◌-◌, ◌≤◌, ◌<◌, ◌≡◌, List, length, get_or, Ok}
 use Rattle.std.proofs.Common.{arith, sym, ap, ◌∙◌}
 use Rattle.chain.specs.declared.Chain.{Chain}
 use Rattle.chain.specs.Chains.{tasks_of}
 use Rattle.chain.specs.Hyperperiod.{hyper_of}
-use Rattle.timing.specs.declared.Span.TheVariants.{Ticks}
 use Rattle.timing.specs.WarmUp.{warm_tick}
 use Rattle.timing.specs.Delay.{delay_at, first_aged, age_at}
 use Rattle.timing.specs.Answers.{upper_tick, delay_of, age_of}
@@ -17,7 +16,6 @@ use Rattle.table.specs.Delays.{rises}
 use Rattle.table.specs.EveryTable.{first_start_holds, falls}
 use Rattle.partition.proofs.CutFree.{canonical}
 use Rattle.maker.specs.declared.Figures.{Figures}
-use Rattle.maker.specs.declared.Made.TheVariants.{Whole}
 use Rattle.maker.specs.Making.{Makes}
 use Rattle.agreement.specs.ReadsAsWalk.{table_walk}
 use Rattle.agreement.specs.GreatestAge.{warm_small, peak_age, peak_low, top_fits}
@@ -27,10 +25,10 @@ use Rattle.agreement.specs.Agreement.{held, walks, well_formed_holds, greatest_i
 pub record Reached (c : Chain) (u top : ℕ) : Type 0 where
   pub some : 1 ≤ top
   pub small : u + top ≤ upper_tick
-  pub delay : delay_of c u ≡ Ticks top
-  pub age : age_of c (u + top - 1) ≡ Ticks (top - 1)
+  pub delay : delay_of c u ≡ Ok top
+  pub age : age_of c (u + top - 1) ≡ Ok (top - 1)
 
-module _ (c : Chain) (twelve : length c.tasks ≡ 12) (p : ℕ) (s v s' v' : List ℕ) (f : Figures) (makes : Makes c p s v s' v' (Whole f)) where
+module _ (c : Chain) (twelve : length c.tasks ≡ 12) (p : ℕ) (s v s' v' : List ℕ) (f : Figures) (makes : Makes c p s v s' v' (Ok f)) where
   k : Completed c p (length s) (length v) f
   k = held c twelve p s v s' v' f makes
 
@@ -43,7 +41,7 @@ module _ (c : Chain) (twelve : length c.tasks ≡ 12) (p : ℕ) (s v s' v' : Lis
   first : get_or s' 0 0 ≡ warm_tick (tasks_of c)
   first = sym (first_start_holds s' v' f.anchors f.hyperperiod formed) ∙ ap first_start same ∙ made_first c twelve p s v s' v' f makes
 
-  ages : (z : ℕ) → first_aged (tasks_of c) ≤ z → z ≤ upper_tick → age_of c z ≡ Ticks (age_at (tasks_of c) z)
+  ages : (z : ℕ) → first_aged (tasks_of c) ≤ z → z ≤ upper_tick → age_of c z ≡ Ok (age_at (tasks_of c) z)
   ages = (greatest_is_delay_and_age c twelve p s v s' v' f makes).aged
 
   module _ (i : ℕ) (h : i < f.anchors) where
@@ -83,6 +81,6 @@ module _ (c : Chain) (twelve : length c.tasks ≡ 12) (p : ℕ) (s v s' v' : Lis
         record {
           some = omega arith;
           small = far;
-          delay = walks c twelve p s v s' v' f makes (get_or s' i 0) (omega (arith, low, k.tick)) (omega arith) ∙ ap Ticks delay_start;
-          age = ages (get_or s' i 0 + get_or v' i 0 - 1) w (omega arith) ∙ ap Ticks (omega arith);
+          delay = walks c twelve p s v s' v' f makes (get_or s' i 0) (omega (arith, low, k.tick)) (omega arith) ∙ ap Ok delay_start;
+          age = ages (get_or s' i 0 + get_or v' i 0 - 1) w (omega arith) ∙ ap Ok (omega arith);
         }

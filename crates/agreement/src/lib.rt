@@ -7,20 +7,19 @@ ghost use Rattle.maker.specs.Making.{told};
 ghost use Rattle.agreement.specs.Answers.{last_before, ReadAndWalked, CutTwice, NotExceeded, ReachedThere};
 
 use chain::Chain;
-use figures::Greatest;
-use maker::{Figures, Made};
-use table::Reading;
+use maker::{Figures, Unmade};
+use refusal::Refusal;
+use table::Table;
 use task::Tick;
-use timing::Span;
 
 // The figures that making told, with which its table is read: g and H also under 11, zeros in another refusal.
-fn told_figures(m: Made) -> Figures
+fn told_figures(m: Result<Figures, Unmade>) -> Figures
     ensures { (result.anchors ≡ (told m).anchors) × (result.hyperperiod ≡ (told m).hyperperiod) }
 {
     match m {
-        Made::Whole(f) => f,
-        Made::Short(f) => f,
-        Made::Refused(_) => Figures {
+        Ok(f) => f,
+        Err(Unmade::Short(f)) => f,
+        Err(Unmade::Refused(_)) => Figures {
             anchors: 0,
             tick: Tick(0),
             hyperperiod: 0,
@@ -32,9 +31,9 @@ fn told_figures(m: Made) -> Figures
 // What making answered, the delay read from the table and the delay walked.
 #[derive(Clone, Copy)]
 pub struct Delays {
-    pub made: Made,
-    pub read: Reading,
-    pub walked: Span,
+    pub made: Result<Figures, Unmade>,
+    pub read: Result<u64, Refusal>,
+    pub walked: Result<u64, Refusal>,
 }
 
 // Make a table cut at p, then read it and walk at tick t.
@@ -49,7 +48,13 @@ pub fn table_is_walk(
 {
     let made = maker::make_table(c, p, starts, latencies);
     let f = told_figures(made);
-    let read = table::read_at(starts, latencies, f.anchors, f.hyperperiod, t.0);
+    let made_table = Table {
+        starts,
+        latencies,
+        anchors: f.anchors,
+        hyperperiod: f.hyperperiod,
+    };
+    let read = made_table.read_at(t.0);
     let walked = timing::delay(c, t);
     Delays { made, read, walked }
 }
@@ -57,8 +62,8 @@ pub fn table_is_walk(
 // What making answered at each of two cuts.
 #[derive(Clone, Copy)]
 pub struct Cuts {
-    pub first: Made,
-    pub second: Made,
+    pub first: Result<Figures, Unmade>,
+    pub second: Result<Figures, Unmade>,
 }
 
 // Make a table cut at p and one cut at q, each in two lists of its own.
@@ -81,10 +86,10 @@ pub fn cuts_agree(
 // What making answered, the table's greatest latency, a delay and an age.
 #[derive(Clone, Copy)]
 pub struct Bounds {
-    pub made: Made,
-    pub greatest: Greatest,
-    pub delay: Span,
-    pub age: Span,
+    pub made: Result<Figures, Unmade>,
+    pub greatest: Result<u64, Refusal>,
+    pub delay: Result<u64, Refusal>,
+    pub age: Result<u64, Refusal>,
 }
 
 // Make a table cut at p, then take its greatest latency, the delay at tick t and the age at tick z.
@@ -100,7 +105,13 @@ pub fn greatest_not_exceeded(
 {
     let made = maker::make_table(c, p, starts, latencies);
     let f = told_figures(made);
-    let greatest = figures::greatest_of(starts, latencies, f.anchors, f.hyperperiod);
+    let made_table = Table {
+        starts,
+        latencies,
+        anchors: f.anchors,
+        hyperperiod: f.hyperperiod,
+    };
+    let greatest = figures::greatest_of(made_table);
     let delay = timing::delay(c, t);
     let age = timing::age(c, z);
     Bounds {
@@ -115,10 +126,7 @@ pub fn greatest_not_exceeded(
 fn entry(list: &[u64], i: usize) -> u64
     ensures { result ≡ get_or list.now i 0 }
 {
-    if i < list.len() {
-        return list[i];
-    }
-    0
+    list.get(i).copied().unwrap_or(0)
 }
 
 // The last tick before start + latency, where that is at most the upper tick; else 0.
@@ -140,12 +148,12 @@ fn last_before(start: u64, latency: u64) -> u64
 // What making answered, the table's greatest latency, an anchor, the delay at its start, and the age just before the press there is booked.
 #[derive(Clone, Copy)]
 pub struct Peak {
-    pub made: Made,
-    pub greatest: Greatest,
+    pub made: Result<Figures, Unmade>,
+    pub greatest: Result<u64, Refusal>,
     pub start: u64,
     pub latency: u64,
-    pub delay: Span,
-    pub age: Span,
+    pub delay: Result<u64, Refusal>,
+    pub age: Result<u64, Refusal>,
 }
 
 // Make a table cut at p, then walk and age at anchor i, counted from 0.
@@ -160,7 +168,13 @@ pub fn greatest_reached(
 {
     let made = maker::make_table(c, p, starts, latencies);
     let f = told_figures(made);
-    let greatest = figures::greatest_of(starts, latencies, f.anchors, f.hyperperiod);
+    let made_table = Table {
+        starts,
+        latencies,
+        anchors: f.anchors,
+        hyperperiod: f.hyperperiod,
+    };
+    let greatest = figures::greatest_of(made_table);
     let start = entry(starts, i);
     let latency = entry(latencies, i);
     let delay = timing::delay(c, Tick(start));

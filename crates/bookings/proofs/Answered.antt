@@ -3,33 +3,36 @@
 use Prim.Native.Nat.{ℕ, ◌+◌, ◌≤◌, ◌<◌, max, min}
 use Rattle.std.proofs.Common.{arith, ◌∙◌}
 use Rattle.std.proofs.Math.Path.{◌≡◌, refl, sym, ap}
-use Rattle.std.specs.Prelude.{Bool, cond, List, ltb, length}
+use Rattle.std.specs.Prelude.{Bool, cond, List, ltb, length, Err, Ok, Result}
 use Rattle.std.proofs.Math.Bool.{true, false}
 use Rattle.std.proofs.Math.Dec.{leb}
 use borrow.Author.Tests.{leb-true, ltb-false, le-leb, le-ltb}
+use Rattle.refusal.specs.declared.Refusal.{Refusal}
 use Rattle.refusal.specs.Refusals.{refusal}
 use Rattle.task.specs.declared.Place.{Place}
 use Rattle.task.specs.declared.Tick.{Tick}
 use Rattle.chain.specs.declared.Chain.{Chain}
-use Rattle.chain.specs.declared.Verdict.{Verdict}
-use Rattle.chain.specs.declared.Verdict.TheVariants as verdict
 use Rattle.chain.specs.Chains.{tasks_of}
 use Rattle.chain.specs.Checks.{Sound, verdict_of}
 use Rattle.chain.proofs.CheckLaws.{accepted}
 use Rattle.timing.specs.WarmUp.{warm_tick}
 use Rattle.timing.specs.Answers.{upper_tick}
 use Rattle.timing.specs.WarmRanges.{warm_range}
-use Rattle.bookings.specs.declared.Bookings.TheVariants.{Both, Refused}
-use Rattle.bookings.specs.Bookings.{booking_at, apart_at, pair_warm, pair_hyper, greatest_apart, common_verdict, after_both, both_at, bookings_after, bookings_of}
+use Rattle.bookings.specs.declared.Bookings.{Bookings}
+use Rattle.bookings.specs.Bookings.{booking_at, apart_at, pair_warm, pair_hyper, greatest_apart, common_verdict, after_both, both_at, bookings_after, bookings_of, both_booked}
 use Rattle.bookings.proofs.EveryPress.{apart_of_all, apart_reached}
+
+-- two answers that are equal have the same bookings
+booked : {a b : Bookings} → ◌≡◌ {A = Result Bookings Refusal} (Ok a) (Ok b) → a ≡ b
+booked e = cc
 
 module _ (l m : List Place) where
   -- what an answer tells of the press and of the two chains
-  record Answered (v w : Verdict) (t e g : ℕ) : Type 0 where
+  record Answered (v w : Result ℕ Refusal) (t e g : ℕ) : Type 0 where
     own : ℕ
-    first : v ≡ verdict.Accepted own
+    first : v ≡ Ok own
     other : ℕ
-    second : w ≡ verdict.Accepted other
+    second : w ≡ Ok other
     small : pair_hyper l m ≤ 60000000
     low : pair_warm l m ≤ t
     difference : e ≡ apart_at l m t
@@ -37,41 +40,52 @@ module _ (l m : List Place) where
 
   -- of two accepted chains, past 7,
   module _ (a b t : ℕ) (x y : Tick) (e g : ℕ) (small : pair_hyper l m ≤ 60000000) where
-    tick_tells : (q : Bool) → ltb t (pair_warm l m) ≡ q → (r : Bool) → cond q (Refused (refusal 12 0)) (cond r (Refused (refusal 13 0)) (both_at l m t)) ≡ Both x y e g
-        → Answered (verdict.Accepted a) (verdict.Accepted b) t e g
-    tick_tells false low false k = record { own = a; first = refl; other = b; second = refl; small = small; low = ltb-false t (pair_warm l m) low; difference = cc; greatest = cc }
+    tick_tells : (q : Bool) → ltb t (pair_warm l m) ≡ q → (r : Bool) → cond q (Err (refusal 12 0)) (cond r (Err (refusal 13 0)) (both_at l m t)) ≡ both_booked x y e g
+        → Answered (Ok a) (Ok b) t e g
+    tick_tells false low false k =
+        let i = booked (sym k) in
+        record {
+          own = a;
+          first = refl;
+          other = b;
+          second = refl;
+          small = small;
+          low = ltb-false t (pair_warm l m) low;
+          difference = ap (λ (q : Bookings). q.difference) i;
+          greatest = ap (λ (q : Bookings). q.greatest) i;
+        }
     tick_tells false low true k = absurd (let z : ◌≡◌ {A = ℕ} 0 1 = cc in omega arith)
     tick_tells true low r k = absurd (let z : ◌≡◌ {A = ℕ} 0 1 = cc in omega arith)
 
-  answer_tells : (v w : Verdict) (t : ℕ) (x y : Tick) (e g : ℕ) → bookings_after l m t (after_both v w (pair_hyper l m)) ≡ Both x y e g → Answered v w t e g
+  answer_tells : (v w : Result ℕ Refusal) (t : ℕ) (x y : Tick) (e g : ℕ) → bookings_after l m t (after_both v w (pair_hyper l m)) ≡ both_booked x y e g → Answered v w t e g
   unfolding bookings_after common_verdict
-  answer_tells (verdict.Refused r) w t x y e g h = absurd (let z : ◌≡◌ {A = ℕ} 0 1 = cc in omega arith)
-  answer_tells (verdict.Accepted a) (verdict.Refused r) t x y e g h = absurd (let z : ◌≡◌ {A = ℕ} 0 1 = cc in omega arith)
-  answer_tells (verdict.Accepted a) (verdict.Accepted b) t x y e g h = go (leb (pair_hyper l m) 60000000) refl h
+  answer_tells (Err r) w t x y e g h = absurd (let z : ◌≡◌ {A = ℕ} 0 1 = cc in omega arith)
+  answer_tells (Ok a) (Err r) t x y e g h = absurd (let z : ◌≡◌ {A = ℕ} 0 1 = cc in omega arith)
+  answer_tells (Ok a) (Ok b) t x y e g h = go (leb (pair_hyper l m) 60000000) refl h
     where
-      go : (p : Bool) → leb (pair_hyper l m) 60000000 ≡ p → bookings_after l m t (cond p (verdict.Accepted (pair_hyper l m)) (verdict.Refused (refusal 7 0))) ≡ Both x y e g
-          → Answered (verdict.Accepted a) (verdict.Accepted b) t e g
+      go : (p : Bool) → leb (pair_hyper l m) 60000000 ≡ p → bookings_after l m t (cond p (Ok (pair_hyper l m)) (Err (refusal 7 0))) ≡ both_booked x y e g
+          → Answered (Ok a) (Ok b) t e g
       go true small k = tick_tells a b t x y e g (leb-true (pair_hyper l m) 60000000 small) (ltb t (pair_warm l m)) refl (ltb upper_tick t) k
       go false small k = absurd (let z : ◌≡◌ {A = ℕ} 0 1 = cc in omega arith)
 
   -- a press of the range is answered
-  answer_there : (v w : Verdict) (a b t : ℕ) → v ≡ verdict.Accepted a → w ≡ verdict.Accepted b → pair_hyper l m ≤ 60000000 → pair_warm l m ≤ t → t ≤ upper_tick
+  answer_there : (v w : Result ℕ Refusal) (a b t : ℕ) → v ≡ Ok a → w ≡ Ok b → pair_hyper l m ≤ 60000000 → pair_warm l m ≤ t → t ≤ upper_tick
       → bookings_after l m t (after_both v w (pair_hyper l m)) ≡ both_at l m t
   unfolding bookings_after common_verdict
   answer_there v w a b t first second small low high = rw (first, second, le-leb (pair_hyper l m) 60000000 small, le-ltb t (pair_warm l m) low, le-ltb upper_tick t high)
 
 -- What holds of the greatest difference that the call answers of two chains.
 pub record GreatestAnswered (c d : Chain) (greatest : ℕ) : Type 0 where
-  pub none_more : (t : ℕ) (x y : Tick) (e g : ℕ) → bookings_of c d t ≡ Both x y e g → (e ≤ greatest) × (g ≡ greatest)
+  pub none_more : (t : ℕ) (x y : Tick) (e g : ℕ) → bookings_of c d t ≡ both_booked x y e g → (e ≤ greatest) × (g ≡ greatest)
   pub press : ℕ
   pub from : pair_warm (tasks_of c) (tasks_of d) ≤ press
   pub within : press < pair_warm (tasks_of c) (tasks_of d) + pair_hyper (tasks_of c) (tasks_of d)
   pub later : Tick
   pub earlier : Tick
-  pub has : bookings_of c d press ≡ Both later earlier greatest greatest
+  pub has : bookings_of c d press ≡ both_booked later earlier greatest greatest
 
 module _ (c d : Chain) (first : length c.tasks ≡ 12) (second : length d.tasks ≡ 12) where
-  pub greatest_answered : (t : ℕ) (x y : Tick) (e g : ℕ) → bookings_of c d t ≡ Both x y e g → GreatestAnswered c d g
+  pub greatest_answered : (t : ℕ) (x y : Tick) (e g : ℕ) → bookings_of c d t ≡ both_booked x y e g → GreatestAnswered c d g
   unfolding warm_tick
   greatest_answered t x y e g h =
       let l = tasks_of c in
@@ -93,5 +107,5 @@ module _ (c d : Chain) (first : length c.tasks ≡ 12) (second : length d.tasks 
         within = r.within;
         later = late;
         earlier = early;
-        has = b ∙ ap (λ (z : ℕ). Both late early z (greatest_apart l m)) (r.is ∙ sym k.greatest) ∙ ap (Both late early g) (sym k.greatest);
+        has = b ∙ ap (λ (z : ℕ). both_booked late early z (greatest_apart l m)) (r.is ∙ sym k.greatest) ∙ ap (both_booked late early g) (sym k.greatest);
       }

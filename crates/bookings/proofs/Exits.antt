@@ -1,4 +1,5 @@
 -- What holds at each return of `check_pair` and `pair_on`, and what an accepted pair has.
+use Rattle.std.specs.Prelude.{Err, Ok, Result}
 use Prim.Native.Nat.{ℕ, ◌+◌, ◌-◌, ◌*◌, ◌≤◌, ◌<◌, max, min}
 use native.Mathlib.Omega.{arith}
 use native.Mathlib.Nat.{mul-le-mul}
@@ -13,8 +14,6 @@ use Rattle.task.specs.declared.Task.{Task}
 use Rattle.task.specs.declared.Place.{Place}
 use Rattle.task.specs.declared.Tick.{Tick}
 use Rattle.euclid.specs.Divisor.{lcm_of}
-use Rattle.chain.specs.declared.Verdict.{Verdict}
-use Rattle.chain.specs.declared.Verdict.TheVariants as verdict
 use Rattle.chain.specs.Chains.{placed}
 use Rattle.chain.specs.Hyperperiod.{hyper_of}
 use Rattle.chain.specs.Multiples.{hyper_pos}
@@ -22,11 +21,10 @@ use Rattle.chain.specs.Checks.{verdict_in, Sound}
 use Rattle.chain.proofs.CheckLaws.{FactsIn, accepted_in}
 use Rattle.timing.specs.WarmUp.{warm_tick}
 use Rattle.timing.specs.WarmRanges.{warm_range}
-use Rattle.timing.specs.Answers.{upper_tick, tick_refusal}
+use Rattle.timing.specs.Answers.{upper_tick, tick_checked}
 use Rattle.timing.proofs.Exits.{in_range}
 use Rattle.ranges.specs.Largest.{largest}
-use Rattle.bookings.specs.declared.Bookings.TheVariants.{Both, Refused}
-use Rattle.bookings.specs.Bookings.{apart_of, apart_at, pair_warm, pair_hyper, greatest_apart, common_verdict, after_both, both_at, pair_verdict, bookings_after}
+use Rattle.bookings.specs.Bookings.{apart_of, apart_at, pair_warm, pair_hyper, greatest_apart, common_verdict, after_both, both_at, pair_verdict, bookings_after, both_booked}
 use Rattle.bookings.specs.Stretches.{stretch_at, hand_booking}
 use Rattle.bookings.specs.declared.Stretch.{Stretch}
 
@@ -58,16 +56,16 @@ module _ (gl : ℕ) (ls : List Task) (gm : ℕ) (ms : List Task) where
   abbrev m : List Place
   m = placed gm ms
 
-  pub pair_first : (r : Refusal) → verdict_in gl ls ≡ verdict.Refused r → verdict.Refused r ≡ pair_verdict gl ls gm ms
+  pub pair_first : (r : Refusal) → verdict_in gl ls ≡ Err r → Err r ≡ pair_verdict gl ls gm ms
   unfolding pair_verdict
   pair_first r e = rw e
 
-  module _ (h : ℕ) (e : verdict_in gl ls ≡ verdict.Accepted h) where
-    pub pair_second : (r : Refusal) → verdict_in gm ms ≡ verdict.Refused r → verdict.Refused r ≡ pair_verdict gl ls gm ms
+  module _ (h : ℕ) (e : verdict_in gl ls ≡ Ok h) where
+    pub pair_second : (r : Refusal) → verdict_in gm ms ≡ Err r → Err r ≡ pair_verdict gl ls gm ms
     unfolding pair_verdict
     pair_second r f = rw (e, f)
 
-    module _ (k : ℕ) (f : verdict_in gm ms ≡ verdict.Accepted k) where
+    module _ (k : ℕ) (f : verdict_in gm ms ≡ Ok k) where
       one : FactsIn l h
       one = accepted_in gl ls h e
 
@@ -87,65 +85,63 @@ module _ (gl : ℕ) (ls : List Task) (gm : ℕ) (ms : List Task) where
         common : both ≡ pair_hyper l m
         common = g ∙ ap (λ (x : ℕ). lcm_of x k) one.hyper ∙ ap (lcm_of (hyper_of l)) two.hyper
 
-        pub pair_above : 60000000 < both → verdict.Refused (refusal 7 0) ≡ pair_verdict gl ls gm ms
+        pub pair_above : 60000000 < both → Err (refusal 7 0) ≡ pair_verdict gl ls gm ms
         unfolding pair_verdict common_verdict
         pair_above x = rw (e, f, ← common, lt-leb both 60000000 x)
 
-        pub pair_accepted : both ≤ 60000000 → verdict.Accepted both ≡ pair_verdict gl ls gm ms
+        pub pair_accepted : both ≤ 60000000 → Ok both ≡ pair_verdict gl ls gm ms
         unfolding pair_verdict common_verdict
         pair_accepted x = rw (e, f, ← common, le-leb both 60000000 x)
 
-  pub paired : (h : ℕ) → pair_verdict gl ls gm ms ≡ verdict.Accepted h → Pair l m h
+  pub paired : (h : ℕ) → pair_verdict gl ls gm ms ≡ Ok h → Pair l m h
   unfolding pair_verdict common_verdict
   paired h e = go (verdict_in gl ls) (verdict_in gm ms) (leb (pair_hyper l m) 60000000) refl refl refl e
     where
-      go : (v w : Verdict) (d : Bool) → verdict_in gl ls ≡ v → verdict_in gm ms ≡ w → leb (pair_hyper l m) 60000000 ≡ d → after_both v w (pair_hyper l m) ≡ verdict.Accepted h → Pair l m h
-      go (verdict.Refused r) w d x y z q = absurd (let s : ◌≡◌ {A = ℕ} 0 1 = cc in omega arith)
-      go (verdict.Accepted i) (verdict.Refused r) d x y z q = absurd (let s : ◌≡◌ {A = ℕ} 0 1 = cc in omega arith)
-      go (verdict.Accepted i) (verdict.Accepted k) true x y z q =
+      go : (v w : Result ℕ Refusal) (d : Bool) → verdict_in gl ls ≡ v → verdict_in gm ms ≡ w → leb (pair_hyper l m) 60000000 ≡ d → after_both v w (pair_hyper l m) ≡ Ok h → Pair l m h
+      go (Err r) w d x y z q = absurd (let s : ◌≡◌ {A = ℕ} 0 1 = cc in omega arith)
+      go (Ok i) (Err r) d x y z q = absurd (let s : ◌≡◌ {A = ℕ} 0 1 = cc in omega arith)
+      go (Ok i) (Ok k) true x y z q =
           let p = rw z at q in
           let s : pair_hyper l m ≡ h = cc in
           record { first = (accepted_in gl ls i x).sound; second = (accepted_in gm ms k y).sound; hyper = sym s; small = omega (arith, leb-true (pair_hyper l m) 60000000 z) }
-      go (verdict.Accepted i) (verdict.Accepted k) false x y z q =
+      go (Ok i) (Ok k) false x y z q =
           let p = rw z at q in
           absurd (let s : ◌≡◌ {A = ℕ} 0 1 = cc in omega arith)
 
   -- ---- pair_on
 
-  pub bookings_refused : (t : ℕ) (r : Refusal) → pair_verdict gl ls gm ms ≡ verdict.Refused r → Refused r ≡ bookings_after l m t (pair_verdict gl ls gm ms)
+  pub bookings_refused : (t : ℕ) (r : Refusal) → pair_verdict gl ls gm ms ≡ Err r → Err r ≡ bookings_after l m t (pair_verdict gl ls gm ms)
   unfolding bookings_after
   bookings_refused t r e = rw e
 
   -- x is the later warm-up tick
-  module _ (h : ℕ) (e : pair_verdict gl ls gm ms ≡ verdict.Accepted h) (x : ℕ) (warm : x ≡ pair_warm l m) where
+  module _ (h : ℕ) (e : pair_verdict gl ls gm ms ≡ Ok h) (x : ℕ) (warm : x ≡ pair_warm l m) where
     pub range_fits : x + h ≤ 900000000000
     range_fits = let k = paired h e in omega (arith, warm, warm_small l k.first, warm_small m k.second, k.small)
 
-    -- n is the refusal of the tick
-    module _ (t n : ℕ) (number : n ≡ tick_refusal t x) where
-      is_number : n ≡ tick_refusal t (pair_warm l m)
-      is_number = number ∙ ap (tick_refusal t) warm
-
-      pub bookings_tick : (n ≡ 0 → ⊥) → Refused (refusal n 0) ≡ bookings_after l m t (pair_verdict gl ls gm ms)
+    -- t is the tick that is asked for
+    module _ (t : ℕ) where
+      pub bookings_tick : (r : Refusal) → Err r ≡ tick_checked t x → Err r ≡ bookings_after l m t (pair_verdict gl ls gm ms)
       unfolding bookings_after
-      bookings_tick some = rw e (go (ltb t (pair_warm l m)) (ltb upper_tick t) is_number)
+      bookings_tick r refused = rw e (go (ltb t (pair_warm l m)) (ltb upper_tick t) (refused ∙ ap (tick_checked t) warm))
         where
-          go : (p q : Bool) → n ≡ cond p 12 (cond q 13 0) → Refused (refusal n 0) ≡ cond p (Refused (refusal 12 0)) (cond q (Refused (refusal 13 0)) (both_at l m t))
-          go true q z = ap (λ (k : ℕ). Refused (refusal k 0)) z
-          go false true z = ap (λ (k : ℕ). Refused (refusal k 0)) z
-          go false false z = absurd (some z)
+          go : (p q : Bool) → ◌≡◌ {A = Result (Unit {0}) Refusal} (Err r) (cond p (Err (refusal 12 0)) (cond q (Err (refusal 13 0)) (Ok tt)))
+              → Err r ≡ cond p (Err (refusal 12 0)) (cond q (Err (refusal 13 0)) (both_at l m t))
+          go true q z = let i : r ≡ refusal 12 0 = cc in ap Err i
+          go false true z = let i : r ≡ refusal 13 0 = cc in ap Err i
+          go false false z = absurd cc
 
-      pub tick_top : n ≡ 0 → t ≤ 1000000000000
-      tick_top z = (in_range t (pair_warm l m) n x number warm z).1
+      pub tick_top : (u : Unit {0}) → Ok u ≡ tick_checked t x → t ≤ 1000000000000
+      tick_top u passed = (in_range t (pair_warm l m) u x passed warm).1
 
       -- a and b are the stretches at t
-      pub bookings_both : n ≡ 0 → (a b : Stretch) → a ≡ stretch_at l t → b ≡ stretch_at m t → (later earlier : Tick) (difference greatest : ℕ)
+      pub bookings_both : (u : Unit {0}) → Ok u ≡ tick_checked t x → (a b : Stretch) → a ≡ stretch_at l t → b ≡ stretch_at m t → (later earlier : Tick) (difference greatest : ℕ)
           → later.0 ≡ max a.booking.0 b.booking.0 → earlier.0 ≡ min a.booking.0 b.booking.0 → difference ≡ apart_of a.booking.0 b.booking.0
-          → greatest ≡ largest (apart_at l m) x (x + h - x) → Both later earlier difference greatest ≡ bookings_after l m t (pair_verdict gl ls gm ms)
+          → greatest ≡ largest (apart_at l m) x (x + h - x) → both_booked later earlier difference greatest ≡ bookings_after l m t (pair_verdict gl ls gm ms)
       unfolding bookings_after apart_at greatest_apart
-      bookings_both z a b first second later earlier difference greatest p q r s =
+      bookings_both u passed a b first second later earlier difference greatest p q r s =
           let k = paired h e in
-          let w = in_range t (pair_warm l m) n x number warm z in
+          let w = in_range t (pair_warm l m) u x passed warm in
           let i = hand_booking l k.first t a first in
           let j = hand_booking m k.second t b second in
           let p' = rw (i, j) at p in
@@ -157,7 +153,7 @@ module _ (gl : ℕ) (ls : List Task) (gm : ℕ) (ms : List Task) where
           rw (e, le-ltb t (pair_warm l m) w.0, le-ltb 1000000000000 t w.1)
           (made p' q' r' s')
         where
-          made : {p q r s : ℕ} → later.0 ≡ p → earlier.0 ≡ q → difference ≡ r → greatest ≡ s → Both later earlier difference greatest ≡ Both (record { 0 = p }) (record { 0 = q }) r s
+          made : {p q r s : ℕ} → later.0 ≡ p → earlier.0 ≡ q → difference ≡ r → greatest ≡ s → both_booked later earlier difference greatest ≡ both_booked (record { 0 = p }) (record { 0 = q }) r s
           made {p} {q} {r} {s} e₁ e₂ e₃ e₄ =
-              ap (λ (y : ℕ). Both (record { 0 = y }) earlier difference greatest) e₁ ∙ ap (λ (y : ℕ). Both (record { 0 = p }) (record { 0 = y }) difference greatest) e₂
-              ∙ ap (λ (y : ℕ). Both (record { 0 = p }) (record { 0 = q }) y greatest) e₃ ∙ ap (Both (record { 0 = p }) (record { 0 = q }) r) e₄
+              ap (λ (y : ℕ). both_booked (record { 0 = y }) earlier difference greatest) e₁ ∙ ap (λ (y : ℕ). both_booked (record { 0 = p }) (record { 0 = y }) difference greatest) e₂
+              ∙ ap (λ (y : ℕ). both_booked (record { 0 = p }) (record { 0 = q }) y greatest) e₃ ∙ ap (both_booked (record { 0 = p }) (record { 0 = q }) r) e₄

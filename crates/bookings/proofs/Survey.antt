@@ -1,6 +1,8 @@
 -- Presses that two chains book, computed from the definitions: tasks (4, 4, 0) and (6, 6, 0) beside task (10, 3, 5).
 -- The later warm-up is tick 5 and the common hyperperiod 60; the bookings lie furthest apart, 14 ticks, for a press at 24.
-use Rattle.std.specs.Prelude.{ℕ, ◌≡◌, refl, List, [], ◌∷◌, replicate}
+use Rattle.std.specs.Prelude.{ℕ, ◌≡◌, refl, List, [], ◌∷◌, replicate, Err, Result, Ok}
+use Rattle.refusal.specs.declared.Refusal.{Refusal}
+use Rattle.bookings.specs.declared.Bookings.{Bookings}
 use Rattle.task.specs.declared.Task.{Task}
 use Rattle.task.specs.Jobs.{within_limits}
 use Rattle.task.specs.Links.{earliest_from, latest_over, forward_link, backward_link}
@@ -12,8 +14,6 @@ use Rattle.chain.specs.Checks.{first_fault, hyper_verdict, after_gap, verdict_fo
 use Rattle.ranges.specs.Least.{least_from}
 use Rattle.timing.specs.WarmUp.{warm_last, warm_at, warm_tick}
 use Rattle.ranges.specs.Largest.{largest}
-use Rattle.bookings.specs.declared.Bookings.{Bookings}
-use Rattle.bookings.specs.declared.Bookings.TheVariants.{Both, Refused}
 use Rattle.bookings.specs.Bookings.{booking_at, apart_at, greatest_apart, common_verdict, bookings_after, bookings_of}
 
 abbrev task : ℕ → ℕ → ℕ → Task
@@ -26,9 +26,9 @@ abbrev second : Chain
 second = record { tasks = task 10 3 5 ∷ replicate 11 zero_task; places = 1; gap = 0 }
 
 -- An answer as plain numbers: of a refusal its number and its place, of a success 0, later, earlier, difference and greatest.
-abbrev told : Bookings → List ℕ
-told (Both x y d g) = 0 ∷ x.0 ∷ y.0 ∷ d ∷ g ∷ []
-told (Refused r) = r.number ∷ r.place ∷ []
+abbrev told : Result Bookings Refusal → List ℕ
+told (Ok b) = 0 ∷ b.later.0 ∷ b.earlier.0 ∷ b.difference ∷ b.greatest ∷ []
+told (Err r) = r.number ∷ r.place ∷ []
 
 abbrev press : ℕ → List ℕ
 press t = told (bookings_of first second t)

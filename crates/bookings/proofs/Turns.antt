@@ -3,6 +3,7 @@ use Prim.Native.Nat.{ℕ, ◌+◌, ◌-◌, ◌≤◌, ◌<◌, max, min}
 use native.Mathlib.Omega.{arith}
 use mathlib.Core.Path.{◌≡◌, ap, ◌∙◌}
 use mathlib.Core.List.{List}
+use Rattle.std.specs.Int.{abs_diff}
 use Rattle.task.specs.declared.Place.{Place}
 use Rattle.chain.specs.Checks.{Sound}
 use Rattle.ranges.specs.Largest.{largest}
@@ -10,6 +11,10 @@ use Rattle.ranges.proofs.LargestLaws.{largest_none, largest_step}
 use Rattle.bookings.specs.declared.Stretch.{Stretch}
 use Rattle.bookings.specs.Bookings.{booking_at, apart_of, apart_at}
 use Rattle.bookings.specs.Stretches.{until_of, stretch_at, stretch_on, until_late, until_soon, hand_booking, hand_until, stretch_on_holds, apart_stays}
+
+-- what `abs_diff` answers
+pub apart_is : (x y : ℕ) → abs_diff x y ≡ apart_of x y
+apart_is x y = omega arith
 
 larger_on : (whole most rest d less new : ℕ) → whole ≡ max most rest → rest ≡ max d less → new ≡ max most d → whole ≡ max new less
 larger_on whole most rest d less new p q r = omega arith
@@ -50,7 +55,3 @@ none_left f t end most whole h e =
     let z : end - t ≡ 0 = omega arith in
     let k = rw (z, largest_none f t) at e in
     omega arith
-
--- at the beginning all is left
-pub all_left : (x : ℕ) → x ≡ max 0 x
-all_left x = omega arith

@@ -2,27 +2,24 @@
 // Its calls `pair` and `pair_on` take any values: two chains, or two flat lists T, D, F, T, D, F, .. of tasks, one for each place, which are lent and not copied, with a gap each.
 #![tactic(auto)]
 
-ghost use Rattle.std.specs.Prelude.{◌≡◌, ◌-◌, ◌≤◌, max, min};
+ghost use Rattle.std.specs.Prelude.{◌≡◌, ◌-◌, ◌≤◌};
 ghost use Rattle.chain.specs.Checks.{Sound};
 ghost use Rattle.chain.specs.Flat.{given_in, tasks_in};
 ghost use Rattle.ranges.specs.Largest.{largest};
-ghost use Rattle.bookings.specs.Bookings.{apart_of, apart_at, pair_verdict, bookings_in, bookings_of};
+ghost use Rattle.bookings.specs.Bookings.{apart_at, pair_verdict, bookings_in, bookings_of};
 ghost use Rattle.bookings.specs.Stretches.{stretch_at, stretch_on};
 
-use chain::{Chain, Verdict};
+use chain::Chain;
 use refusal::Refusal;
 use task::Tick;
 
-// The later and the earlier of two bookings of one press, their difference, and the greatest difference over all presses; or the refusal.
-#[derive(Clone, Copy)]
-pub enum Bookings {
-    Both {
-        later: Tick,
-        earlier: Tick,
-        difference: u64,
-        greatest: u64,
-    },
-    Refused(Refusal),
+// The later and the earlier of two bookings of one press, their difference, and the greatest difference over all presses.
+#[derive(Clone, Copy, PartialEq, Eq, Debug)]
+pub struct Bookings {
+    pub later: Tick,
+    pub earlier: Tick,
+    pub difference: u64,
+    pub greatest: u64,
 }
 
 // When a press is booked, and the tick from which on a press is booked later.
@@ -32,47 +29,10 @@ pub struct Stretch {
     pub until: Tick,
 }
 
-// ---- of two numbers
-
-fn later(x: Tick, y: Tick) -> Tick
-    ensures { result.0 ≡ max x.0 y.0 }
-{
-    if x.0 < y.0 {
-        return y;
-    }
-    x
-}
-
-fn earlier(x: Tick, y: Tick) -> Tick
-    ensures { result.0 ≡ min x.0 y.0 }
-{
-    if x.0 < y.0 {
-        return x;
-    }
-    y
-}
-
-fn apart(x: Tick, y: Tick) -> u64
-    ensures { result ≡ apart_of x.0 y.0 }
-{
-    if x.0 < y.0 {
-        return y.0 - x.0;
-    }
-    x.0 - y.0
-}
-
-fn larger(a: u64, b: u64) -> u64
-    ensures { result ≡ max a b }
-{
-    if a < b {
-        return b;
-    }
-    a
-}
-
 // ---- stretches
 
 // The booking of a press at t, and how long it stands: forward to the last write, and back to the first place's latest job that is written as early.
+#[tactic(auto, using(timing::proofs::Whole::some_place, timing::proofs::Whole::last_inside, timing::proofs::Whole::last_place_small))]
 fn stretch_at(tasks: &[u64], gap: u64, t: Tick) -> Stretch
     requires { (Sound (tasks_in gap tasks.now)) × (t.0 ≤ 1000000000000) }
     ensures { result ≡ stretch_at (tasks_in gap tasks.now) t.0 }
@@ -89,6 +49,7 @@ fn stretch_at(tasks: &[u64], gap: u64, t: Tick) -> Stretch
 }
 
 // The stretch in hand while it lasts, else the one at t.
+#[tactic(auto, using(crate::proofs::Whole::on_kept, crate::proofs::Whole::on_anew))]
 fn stretch_on(tasks: &[u64], gap: u64, s: Stretch, t: Tick) -> Stretch
     requires { (Sound (tasks_in gap tasks.now)) × (t.0 ≤ 1000000000000) }
     ensures { result ≡ stretch_on (tasks_in gap tasks.now) s t.0 }
@@ -109,8 +70,8 @@ fn greatest_apart(first: &[u64], gap1: u64, second: &[u64], gap2: u64, from: Tic
     let mut b = stretch_at(second, gap2, t);
     let mut most: u64 = 0;
     while t.0 < end.0 {
-        most = larger(most, apart(a.booking, b.booking));
-        t = earlier(a.until, b.until);
+        most = most.max(a.booking.0.abs_diff(b.booking.0));
+        t = Tick(a.until.0.min(b.until.0));
         a = stretch_on(first, gap1, a, t);
         b = stretch_on(second, gap2, b, t);
     }
@@ -120,71 +81,52 @@ fn greatest_apart(first: &[u64], gap1: u64, second: &[u64], gap2: u64, from: Tic
 // ---- the call
 
 // The checks of the first chain, then of the second, then 7 for their common hyperperiod; accepted with it.
-fn check_pair(first: &[u64], gap1: u64, second: &[u64], gap2: u64) -> Verdict
+#[tactic(auto, using(crate::proofs::Exits::pair_first, crate::proofs::Exits::pair_second))]
+fn check_pair(first: &[u64], gap1: u64, second: &[u64], gap2: u64) -> Result<u64, Refusal>
     ensures { result ≡ pair_verdict gap1 (given_in first.now) gap2 (given_in second.now) }
 {
-    let v = chain::check_on(first, gap1);
-    match v {
-        Verdict::Refused(r) => {
-            return Verdict::Refused(r);
-        }
-        Verdict::Accepted(h) => {
-            let w = chain::check_on(second, gap2);
-            match w {
-                Verdict::Refused(r) => {
-                    return Verdict::Refused(r);
-                }
-                Verdict::Accepted(k) => {
-                    let both = euclid::lcm(h, k);
-                    if 60000000 < both {
-                        return Verdict::Refused(Refusal {
-                            number: 7,
-                            place: 0,
-                        });
-                    }
-                    Verdict::Accepted(both)
-                }
-            }
-        }
+    let h = chain::check_on(first, gap1)?;
+    let k = chain::check_on(second, gap2)?;
+    let both = euclid::lcm(h, k);
+    if 60000000 < both {
+        return Err(Refusal::HYPERPERIOD_TOO_LONG);
     }
+    Ok(both)
 }
 
 // The bookings of a press at tick t by two chains, as flat lists of tasks, each with the gap of its links.
-pub fn pair_on(first: &[u64], gap1: u64, second: &[u64], gap2: u64, t: Tick) -> Bookings
+#[tactic(auto, using(crate::proofs::Exits::paired, crate::proofs::Exits::pair_warm_holds, crate::proofs::Exits::range_fits, crate::proofs::Exits::tick_top))]
+pub fn pair_on(
+    first: &[u64],
+    gap1: u64,
+    second: &[u64],
+    gap2: u64,
+    t: Tick,
+) -> Result<Bookings, Refusal>
     ensures { result ≡ bookings_in gap1 (given_in first.now) gap2 (given_in second.now) t.0 }
 {
-    let v = check_pair(first, gap1, second, gap2);
-    match v {
-        Verdict::Refused(r) => {
-            return Bookings::Refused(r);
-        }
-        Verdict::Accepted(h) => {
-            let from = later(
-                timing::warm_tick(first, gap1),
-                timing::warm_tick(second, gap2),
-            );
-            let number = timing::tick_refusal(t, from);
-            if number != 0 {
-                return Bookings::Refused(Refusal { number, place: 0 });
-            }
-            let a = stretch_at(first, gap1, t);
-            let b = stretch_at(second, gap2, t);
-            let greatest = greatest_apart(first, gap1, second, gap2, from, Tick(from.0 + h));
-            let late = later(a.booking, b.booking);
-            let early = earlier(a.booking, b.booking);
-            let difference = apart(a.booking, b.booking);
-            Bookings::Both {
-                later: late,
-                earlier: early,
-                difference,
-                greatest,
-            }
-        }
-    }
+    let h = check_pair(first, gap1, second, gap2)?;
+    let warm1 = timing::warm_tick(first, gap1);
+    let warm2 = timing::warm_tick(second, gap2);
+    let from = Tick(warm1.0.max(warm2.0));
+    timing::check_tick(t, from)?;
+    let a = stretch_at(first, gap1, t);
+    let b = stretch_at(second, gap2, t);
+    let greatest = greatest_apart(first, gap1, second, gap2, from, Tick(from.0 + h));
+    let (one, two) = (a.booking.0, b.booking.0);
+    let late = one.max(two);
+    let early = one.min(two);
+    let difference = one.abs_diff(two);
+    Ok(Bookings {
+        later: Tick(late),
+        earlier: Tick(early),
+        difference,
+        greatest,
+    })
 }
 
 // Document 02's bookings of two chains, for a press at tick t; refusals 8, 5, 7 of the first, then of the second, 7 of their common hyperperiod, 12, 13.
-pub fn pair(first: Chain, second: Chain, t: Tick) -> Bookings
+pub fn pair(first: Chain, second: Chain, t: Tick) -> Result<Bookings, Refusal>
     ensures { result ≡ bookings_of first second t.0 }
 {
     let one = chain::flat(first);

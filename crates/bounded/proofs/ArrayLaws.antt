@@ -1,6 +1,5 @@
 -- The arrays of a schedule with bounds have their lengths, as owning it tells.
 use mathlib.Core.List.{List}
-use lib.ListN.{length-map}
 use mir.Val.{Val}
 use denote.Shadow.{shadow}
 use Rattle.schedule.proofs.ArrayLaws.{arrays}

@@ -1,2 +1,4 @@
 pub mod ArrayLaws
+pub mod Derived
 pub mod SameLaws
+pub mod Zeros

@@ -1,12 +1,9 @@
--- What compares as the same is equal, and what is equal compares as the same (`same_exactly`); and the steps of the loops that compare.
-use Rattle.std.specs.Prelude.{ℕ, ◌+◌, ◌≤◌, ◌<◌, ◌↔◌, Bool, eqb, length, get_or, drop}
+-- What compares as the same is equal, and what is equal compares as the same (`same_exactly`).
+use Rattle.std.specs.Prelude.{ℕ, ◌↔◌, Bool, eqb}
 use Rattle.std.proofs.Common.{arith, ◌∙◌, subst, eqb-true, eq-eqb}
-use Rattle.std.proofs.Math.Numerals.{add-one}
-use Rattle.std.proofs.Math.Path.{◌≡◌, refl, sym, ap}
+use Rattle.std.proofs.Math.Path.{◌≡◌, refl, ap}
 use Rattle.std.proofs.Math.Bool.{true, false, cond}
 use mathlib.Core.List.{List, [], ◌∷◌}
-use Rattle.std.proofs.Math.ListN.{drop_of_length-le}
-use Rattle.std.proofs.Math.Seq.{drop-cons}
 use Rattle.schedule.specs.declared.NumberedTask.{NumberedTask}
 use Rattle.schedule.specs.declared.Route.{Route}
 use Rattle.schedule.specs.declared.Schedule.{Schedule}
@@ -14,24 +11,6 @@ use Rattle.bounded.specs.declared.Bounded.{Bounded}
 use Rattle.bounded.specs.Bounded.{pairwise, same_task, same_route, same_schedule, same_bounded}
 
 module _ {A : Type 0} (f : A → A → Bool) where
-  -- ---- a loop: two entries that pass, two that do not, the end
-
-  pub pair_on : (a b : List A) (i : ℕ) (d : A) (t : Bool) → i < length a → i < length b → t ≡ f (get_or a i d) (get_or b i d) → t ≡ true
-      → pairwise f (drop i a) (drop i b) ≡ pairwise f (drop (i + 1) a) (drop (i + 1) b)
-  unfolding pairwise
-  pair_on a b i d t h k e u = let w = sym e ∙ u in rw (drop-cons a i d h, drop-cons b i d k, w, add-one i)
-
-  pub pair_off : (a b : List A) (i : ℕ) (d : A) (t : Bool) → i < length a → i < length b → t ≡ f (get_or a i d) (get_or b i d) → t ≡ false
-      → pairwise f (drop i a) (drop i b) ≡ false
-  unfolding pairwise
-  pair_off a b i d t h k e u = let w = sym e ∙ u in rw (drop-cons a i d h, drop-cons b i d k, w)
-
-  pub pair_end : (a b : List A) (i : ℕ) → length a ≤ i → length b ≤ i → pairwise f (drop i a) (drop i b) ≡ true
-  unfolding pairwise
-  pair_end a b i h k = rw (drop_of_length-le a h, drop_of_length-le b k)
-
-  -- ---- what it means
-
   pub pairs_equal : ((x y : A) → f x y ≡ true → x ≡ y) → (a b : List A) → pairwise f a b ≡ true → a ≡ b
   unfolding pairwise
   pairs_equal g [] [] h = refl

@@ -30,7 +30,7 @@ pairwise f [] (y ∷ b) = false
 pairwise f (x ∷ a) [] = false
 pairwise f (x ∷ a) (y ∷ b) = cond (f x y) (pairwise f a b) false
 
--- Whether two are the same, entry by entry: exactly where they are equal (`same_exactly` in Same).
+-- Whether two are the same, entry by entry: exactly where they are equal (`same_exactly` in proofs/SameLaws).
 unfoldable pub same_task : NumberedTask → NumberedTask → Bool
 same_task a b =
     cond (eqb a.number b.number)

@@ -1,15 +1,15 @@
 -- Demand 3 of the calls for C, with any gap (order 5), from their own contracts: from code 0 of mo_make_table, mo_read_table gives at every tick what mo_delay gives (`table_is_walk_for_c`),
 -- two cuts leave the same entries below g (`cuts_agree_for_c`), and mo_greatest's latency is the greatest delay of mo_delay and 1 + the greatest age of mo_age
 -- (`greatest_for_c`), and at most the sum of mo_sections, however the chain is cut (`sections_for_c`), which it is with no cut (`no_cut_for_c`). When mo_make_table answers 0 is `completes_for_c`. And mo_mean's two numbers give the mean of the walk's delay at every time of a hyperperiod (`mean_for_c`); mo_histogram's entries and rest count the walk's delays (`counts_for_c`).
-use Rattle.std.specs.Prelude.{ℕ, ◌+◌, ◌*◌, ◌/◌, ◌≤◌, ◌<◌, ◌≡◌, refl, List, [], ◌∷◌, get_or}
+use Rattle.std.specs.Prelude.{ℕ, ◌+◌, ◌*◌, ◌/◌, ◌≤◌, ◌<◌, ◌≡◌, refl, List, [], ◌∷◌, get_or, Ok, Result}
 use Rattle.std.proofs.Common.{arith, sym, ◌∙◌, get_or-take}
 use Rattle.std.proofs.Math.Path.{ap}
 use Rattle.std.proofs.Math.ListN.{length}
 use Rattle.std.proofs.Math.Seq.{length-take-le}
 use borrow.Author.Tests.{le-leb}
+use Rattle.refusal.specs.declared.Refusal.{Refusal}
 use Rattle.task.specs.Jobs.{place_of}
 use Rattle.chain.specs.declared.Chain.{Chain}
-use Rattle.chain.specs.declared.Verdict.TheVariants as verdict
 use Rattle.chain.specs.Chains.{given_of, tasks_of, at, zero_task}
 use Rattle.chain.specs.Placed.{at_placed}
 use Rattle.chain.specs.Checks.{verdict_of}
@@ -23,11 +23,9 @@ use Rattle.table.specs.Reading.{reading, word_of, GivesWord}
 use Rattle.table.specs.Words.{word_small}
 use Rattle.figures.specs.Figures.{greatest_of, mean_of}
 use Rattle.figures.specs.Integral.{Integral}
-use Rattle.histogram.specs.declared.Histogram.{Histogram}
 use Rattle.histogram.specs.Histogram.{histogram_of, Gives}
 use Rattle.histogram.proofs.EveryHyperperiod.{Counts, counts_same}
 use Rattle.maker.specs.declared.Figures.{Figures}
-use Rattle.maker.specs.declared.Made.TheVariants as made
 use Rattle.maker.specs.Making.{judged, Makes}
 use Rattle.maker.proofs.Exits.{tells_so}
 use Rattle.agreement.specs.Agreement.{SameGreatest, held, table_is_walk, cuts_agree, greatest_is_delay_and_age}
@@ -98,7 +96,7 @@ module _ (tasks : List ℕ) (places gap : ℕ) where
   -- a making for C with code 0 is a making with a whole table
   record Done (p : ℕ) (s v s' v' figures : List ℕ) : Type 0 where
     given : Figures
-    makes : Makes c p s v s' v' (made.Whole given)
+    makes : Makes c p s v s' v' (Ok given)
     anchors : count figures ≡ given.anchors
     from : tick figures ≡ given.tick.0
     hyperperiod : hyper figures ≡ given.hyperperiod
@@ -110,7 +108,7 @@ module _ (tasks : List ℕ) (places gap : ℕ) where
         let n = table.gives_figures ∙ ap made_numbers w.made in
         record {
           given = w.figures;
-          makes = record { answer = sym w.made; tells = tells_so c p (length s) (judged c p (length s) (length v)) (made.Whole w.figures) (sym w.made); leaves_starts = table.leaves_starts; leaves_latencies = table.leaves_latencies };
+          makes = record { answer = sym w.made; tells = tells_so c p (length s) (judged c p (length s) (length v)) (Ok w.figures) (sym w.made); leaves_starts = table.leaves_starts; leaves_latencies = table.leaves_latencies };
           anchors = ap (λ (l : List ℕ). get_or l 0 0) n;
           from = ap (λ (l : List ℕ). get_or l 1 0) n;
           hyperperiod = ap (λ (l : List ℕ). get_or l 2 0) n;
@@ -207,7 +205,7 @@ module _ (tasks : List ℕ) (places gap : ℕ) where
         → (code' ≡ 0) × CountsForC c (tick figures) (hyper figures) width list rest
     counts_for_c width counts list code' rest g some =
         let f = done.given in
-        let r : Histogram = histogram_of s' v' f.anchors f.hyperperiod width (length counts) in
+        let r : Result ℕ Refusal = histogram_of s' v' f.anchors f.hyperperiod width (length counts) in
         let same : Gives s' v' f.anchors f.hyperperiod width counts list r = record { answer = refl; leaves = rw (← done.anchors, ← done.hyperperiod) g.leaves } in
         let k = counts_walks c twelve p s v s' v' f done.makes width counts list r same some in
         let n : (code' ∷ rest ∷ []) ≡ 0 ∷ k.rest ∷ []
@@ -241,8 +239,8 @@ module _ (tasks : List ℕ) (places gap : ℕ) where
 
   -- Of a chain that mo_check accepts, mo_make_table answers 0 at each place p, from lists of equal length of at least h / T entries, T being the period at any place: tasks[3 * i], i from 0.
   module _ (code h : ℕ) (checks : GivesCheck c code h) (fine : code ≡ 0) where
-    is_accepted : verdict_of c ≡ verdict.Accepted h
-    is_accepted = check_zero c (sym checks.0 ∙ fine) ∙ ap verdict.Accepted (sym checks.1)
+    is_accepted : verdict_of c ≡ Ok h
+    is_accepted = check_zero c (sym checks.0 ∙ fine) ∙ ap Ok (sym checks.1)
 
     facts : Facts c h
     facts = accepted c h twelve is_accepted

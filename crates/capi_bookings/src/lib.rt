@@ -5,7 +5,6 @@
 ghost use Rattle.capi_schedule.specs.FlatSchedule.{schedule_from};
 ghost use Rattle.capi_bookings.specs.Calls.{GivesBookings};
 
-use bookings::Bookings;
 use task::Tick;
 
 // The bookings of a press at tick t by chains `first` and `second`, counted from 1: the later, the earlier, their difference, and the greatest difference.
@@ -27,16 +26,11 @@ pub extern "C" fn mo_bookings(
     let s = capi_schedule::schedule_from(tasks, count, chains, places, total, gap);
     let b = from_schedule::pair_of(s, first, second, Tick(t));
     match b {
-        Bookings::Both {
-            later,
-            earlier,
-            difference,
-            greatest,
-        } => {
-            *figures = [later.0, earlier.0, difference, greatest];
+        Ok(both) => {
+            *figures = [both.later.0, both.earlier.0, both.difference, both.greatest];
             0
         }
-        Bookings::Refused(r) => {
+        Err(r) => {
             *figures = [0, 0, 0, 0];
             r.code()
         }

@@ -6,6 +6,7 @@ ghost use Rattle.std.specs.Prelude.{◌≡◌, ◌*◌};
 ghost use Rattle.capi_chain.specs.FlatChain.{places_of};
 
 // How many numbers of a list hold the tasks at the places; none where the list does not hold that many tasks.
+#[tactic(auto, unfolding(crate::specs::FlatChain::places_of))]
 pub fn flat_length(length: usize, places: usize) -> usize
     ensures { result ≡ 3 * places_of length places }
 {

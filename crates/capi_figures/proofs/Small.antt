@@ -1,4 +1,5 @@
 -- Every refusal of the figures fits one number: it is 14 at place 0.
+use Rattle.std.specs.Prelude.{Ok}
 use Prim.Native.Nat.{ℕ, ◌<◌}
 use native.Mathlib.Omega.{arith}
 use mathlib.Core.List.{List}
@@ -8,6 +9,7 @@ use Rattle.table.specs.WellFormed.{well_formed}
 use Rattle.table.specs.Reading.{delay_at}
 use Rattle.figures.specs.Ticks.{every_above}
 use Rattle.figures.specs.Figures.{greatest_of, low_of, mean_of, throughput_of, exceedance, exceedance_of}
+use Rattle.figures.specs.declared.Exceedance.{Exceedance}
 use Rattle.capi_figures.specs.Calls.{greatest_numbers, low_numbers, mean_numbers, throughput_numbers, exceedance_numbers}
 
 module _ (s v : List ℕ) (g H : ℕ) where
@@ -31,4 +33,4 @@ module _ (s v : List ℕ) (g H : ℕ) where
   unfolding exceedance_of exceedance
   exceedance_small B =
       let every = every_above B (delay_at H (anchors s v g)) (first_start (anchors s v g)) H in
-      either exceedance_numbers (well_formed s v g H) _ _ (either exceedance_numbers every _ _ (omega arith) (omega arith)) (omega arith)
+      either exceedance_numbers (well_formed s v g H) _ _ (either (λ (e : Exceedance). exceedance_numbers (Ok e)) every _ _ (omega arith) (omega arith)) (omega arith)

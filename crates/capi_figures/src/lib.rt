@@ -6,19 +6,26 @@ ghost use Rattle.std.specs.Prelude.{◌≡◌, [], ◌∷◌};
 ghost use Rattle.figures.specs.Figures.{low_of, throughput_of, exceedance_of};
 ghost use Rattle.capi_figures.specs.Calls.{GivesGreatest, low_numbers, GivesMean, throughput_numbers, exceedance_numbers};
 
-use figures::{Exceedance, Greatest, Low, Mean, Throughput};
+use figures::Exceedance;
+use table::Table;
 
 // The greatest latency.
 pub fn mo_greatest(starts: &[u64], latencies: &[u64], g: u64, h: u64, latency: &mut u64) -> u64
     ensures { GivesGreatest starts.now latencies.now g h result latency.new }
 {
-    let a = figures::greatest_of(starts, latencies, g as usize, h);
+    let t = Table {
+        starts,
+        latencies,
+        anchors: g as usize,
+        hyperperiod: h,
+    };
+    let a = figures::greatest_of(t);
     match a {
-        Greatest::Latency(v) => {
+        Ok(v) => {
             *latency = v;
             0
         }
-        Greatest::Refused(f) => {
+        Err(f) => {
             *latency = 0;
             f.code()
         }
@@ -29,13 +36,19 @@ pub fn mo_greatest(starts: &[u64], latencies: &[u64], g: u64, h: u64, latency: &
 pub fn mo_low(starts: &[u64], latencies: &[u64], g: u64, h: u64, low: &mut u64) -> u64
     ensures { (result ∷ low.new ∷ []) ≡ low_numbers (low_of starts.now latencies.now g h) }
 {
-    let a = figures::low_of(starts, latencies, g as usize, h);
+    let t = Table {
+        starts,
+        latencies,
+        anchors: g as usize,
+        hyperperiod: h,
+    };
+    let a = figures::low_of(t);
     match a {
-        Low::Limit(v) => {
+        Ok(v) => {
             *low = v;
             0
         }
-        Low::Refused(f) => {
+        Err(f) => {
             *low = 0;
             f.code()
         }
@@ -53,14 +66,20 @@ pub fn mo_mean(
 ) -> u64
     ensures { GivesMean starts.now latencies.now g h result doubled_area.new doubled_ticks.new }
 {
-    let a = figures::mean_of(starts, latencies, g as usize, h);
+    let t = Table {
+        starts,
+        latencies,
+        anchors: g as usize,
+        hyperperiod: h,
+    };
+    let a = figures::mean_of(t);
     match a {
-        Mean::Doubled { area: v, ticks: n } => {
-            *doubled_area = v;
-            *doubled_ticks = n;
+        Ok(m) => {
+            *doubled_area = m.doubled_area;
+            *doubled_ticks = m.doubled_ticks;
             0
         }
-        Mean::Refused(f) => {
+        Err(f) => {
             *doubled_area = 0;
             *doubled_ticks = 0;
             f.code()
@@ -79,14 +98,20 @@ pub fn mo_throughput(
 ) -> u64
     ensures { (result ∷ anchors.new ∷ ticks.new ∷ []) ≡ throughput_numbers (throughput_of starts.now latencies.now g h) }
 {
-    let a = figures::throughput_of(starts, latencies, g as usize, h);
+    let t = Table {
+        starts,
+        latencies,
+        anchors: g as usize,
+        hyperperiod: h,
+    };
+    let a = figures::throughput_of(t);
     match a {
-        Throughput::Anchors { count: m, ticks: n } => {
-            *anchors = m as u64;
-            *ticks = n;
+        Ok(r) => {
+            *anchors = r.anchors as u64;
+            *ticks = r.ticks;
             0
         }
-        Throughput::Refused(f) => {
+        Err(f) => {
             *anchors = 0;
             *ticks = 0;
             f.code()
@@ -106,19 +131,27 @@ pub fn mo_exceedance(
 ) -> u64
     ensures { (result ∷ run.new ∷ endless.new ∷ []) ≡ exceedance_numbers (exceedance_of starts.now latencies.now g h b) }
 {
-    let a = figures::exceedance_of(starts, latencies, g as usize, h, b);
+    let t = Table {
+        starts,
+        latencies,
+        anchors: g as usize,
+        hyperperiod: h,
+    };
+    let a = figures::exceedance_of(t, b);
     match a {
-        Exceedance::Run(n) => {
-            *run = n;
-            *endless = 0;
-            0
-        }
-        Exceedance::Endless => {
-            *run = 0;
-            *endless = 1;
-            0
-        }
-        Exceedance::Refused(f) => {
+        Ok(found) => match found {
+            Exceedance::Run(n) => {
+                *run = n;
+                *endless = 0;
+                0
+            }
+            Exceedance::Endless => {
+                *run = 0;
+                *endless = 1;
+                0
+            }
+        },
+        Err(f) => {
             *run = 0;
             *endless = 0;
             f.code()

@@ -1,9 +1,10 @@
 -- The two round trips of a schedule file hold through the calls for C: writing what was read returns the file (`rewritten_for_c`),
 -- and reading what was written returns the numbers that were given (`reread_for_c`).
-use Rattle.std.specs.Prelude.{ℕ, ◌+◌, ◌-◌, ◌*◌, ◌≤◌, ◌<◌, ◌≡◌, refl, Bool, true, false, cond, List, [], ◌∷◌, ◌++◌, map, leb, eqb, length, get_or, take, drop}
+use Rattle.std.specs.Prelude.{ℕ, ◌+◌, ◌-◌, ◌*◌, ◌≤◌, ◌<◌, ◌≡◌, refl, Bool, true, false, cond, List, [], ◌∷◌, ◌++◌, map, leb, eqb, length, get_or, take, drop, Err, Ok, Result}
 use Rattle.std.proofs.Common.{arith, sym, ap, ◌∙◌, take_at, get_or-take, length-take-le}
 use Rattle.std.proofs.lemmas.Bool.{eqb-false}
-use Rattle.refusal.specs.Refusals.{refusal, none}
+use Rattle.refusal.specs.declared.Refusal.{Refusal}
+use Rattle.refusal.specs.Refusals.{refusal}
 use Rattle.chain.specs.Flat.{take_flat}
 use Rattle.ranges.specs.Entries.{entries_length, entries_at}
 use Rattle.schedule.specs.declared.NumberedTask.{NumberedTask}
@@ -16,10 +17,8 @@ use Rattle.schedule_checks.specs.Checks.{fault_of}
 use Rattle.schedule_checks.proofs.SoundSchedule.{SoundSchedule, placed_front}
 use Rattle.schedule_checks.proofs.SameSchedule.{SameSchedule, fault_same}
 use Rattle.little_endian.specs.LittleEndian.{Bytes}
-use Rattle.file_reader.specs.declared.FileRead.{FileRead}
 use Rattle.file_reader.specs.Reading.{read_file}
-use Rattle.file_writer.specs.declared.Written.{Written}
-use Rattle.file_writer.specs.declared.Written.TheVariants as written
+use Rattle.file_reader.proofs.Offsets.{read_small}
 use Rattle.file_writer.specs.FileBytes.{file_of, file_bytes}
 use Rattle.file_writer.specs.Writing.{length_verdict, left_bytes, written_of}
 use Rattle.file_writer.specs.Accepted.{Accepted, accepted}
@@ -27,26 +26,34 @@ use Rattle.round_trip.specs.RoundTrips.{cleared}
 use Rattle.round_trip.proofs.RoundTrips.{read_arrays, read_sound, read_places, write_after_read, read_after_write, cleared_parts, cleared_arrays, cleared_places}
 use Rattle.capi_schedule.specs.FlatSchedule.{tasks_from, count_from, held_from, place_from, route_from, routes_from, schedule_from, numbered_fields, flat_tasks, flat_routes, route_counts}
 use Rattle.capi_schedule.specs.GivenBack.{from_arrays, schedule_given_back, front_tasks, same_tasks, count_fits, count_is, held_back, held_is, flat_long, flat_at, count_at, SameChains, same_counts, same_places}
-use Rattle.capi_file.specs.Calls.{written_code, written_length, GivesSchedule, GivesFile}
+use Rattle.capi_file.specs.Calls.{read_code, GivesSchedule, written_code, written_length, GivesFile}
 
 -- ---- what C gives back
 
 -- the schedule of what C got of a schedule
-pub given_schedule : (f : FileRead) (code : ℕ) (ts ch pl counts : List ℕ) → GivesSchedule f code ts ch pl counts → Arrays f.schedule → f.schedule.count ≤ 32 → f.schedule.chains ≤ 4
-    → ((c : ℕ) → c < 4 → (get_or f.schedule.routes c no_route).count ≤ 12)
-    → schedule_from ts (get_or counts 0 0) ch pl (get_or counts 1 0) (get_or counts 2 0) ≡ f.schedule
-given_schedule f code ts ch pl counts g a few few_chains few_places =
-    rw (g.gives_tasks, g.gives_chains, g.gives_places, g.gives_counts) (schedule_given_back f.schedule a few few_chains few_places)
+pub given_schedule : (s : Schedule) (code : ℕ) (ts ch pl counts : List ℕ) → GivesSchedule (Ok s) code ts ch pl counts → Arrays s → s.count ≤ 32 → s.chains ≤ 4
+    → ((c : ℕ) → c < 4 → (get_or s.routes c no_route).count ≤ 12)
+    → schedule_from ts (get_or counts 0 0) ch pl (get_or counts 1 0) (get_or counts 2 0) ≡ s
+given_schedule s code ts ch pl counts g a few few_chains few_places =
+    rw (g.gives_tasks, g.gives_chains, g.gives_places, g.gives_counts) (schedule_given_back s a few few_chains few_places)
 
--- a refusal's code is not 0
-written_zero : (s : Schedule) (lent : ℕ) → written_code (written_of s lent) ≡ 0 → written_of s lent ≡ written.Bytes (written_length (written_of s lent))
+-- a refusal's code is not 0, so with the code 0 a schedule was read
+pub schedule_read : (b : List ℕ) → read_code (read_file b) ≡ 0 → (s : Schedule) × (read_file b ≡ Ok s)
+schedule_read b h = go (read_file b) refl h
+  where
+    go : (f : Result Schedule Refusal) → read_file b ≡ f → read_code f ≡ 0 → (s : Schedule) × (f ≡ Ok s)
+    go (Ok s) e k = (s, refl)
+    go (Err r) e k = absurd (let i = read_small b r (sym e) in omega (arith, i.some))
+
+-- and so in writing
+written_zero : (s : Schedule) (lent : ℕ) → written_code (written_of s lent) ≡ 0 → written_of s lent ≡ Ok (written_length (written_of s lent))
 unfolding written_of length_verdict
 written_zero s lent = go (eqb (fault_of s).number 0) refl (leb (length (file_bytes s)) lent)
   where
-    answer : Bool → Bool → Written
-    answer x y = cond x (cond y (written.Bytes (length (file_bytes s))) (written.Refused (refusal 11 0))) (written.Refused (fault_of s))
+    answer : Bool → Bool → Result ℕ Refusal
+    answer x y = cond x (cond y (Ok (length (file_bytes s))) (Err (refusal 11 0))) (Err (fault_of s))
 
-    go : (x : Bool) → eqb (fault_of s).number 0 ≡ x → (y : Bool) → written_code (answer x y) ≡ 0 → answer x y ≡ written.Bytes (written_length (answer x y))
+    go : (x : Bool) → eqb (fault_of s).number 0 ≡ x → (y : Bool) → written_code (answer x y) ≡ 0 → answer x y ≡ Ok (written_length (answer x y))
     go true e true h = refl
     go true e false h = absurd (omega arith)
     go false e y h = absurd (eqb-false (fault_of s).number 0 e (omega arith))
@@ -65,7 +72,7 @@ module _ (s t : Schedule) (same : SameSchedule s t) where
   gives_same : (old : List ℕ) (code : ℕ) (new : List ℕ) (long : ℕ) → GivesFile s old code new long → GivesFile t old code new long
   gives_same old code new long g = record {
     answers = g.answers ∙ ap written_code (written_same (length old));
-    leaves = g.leaves ∙ ap (λ (x : Written). left_bytes x (file_bytes s) old) (written_same (length old)) ∙ ap (λ (x : List ℕ). left_bytes (written_of t (length old)) x old) file_same;
+    leaves = g.leaves ∙ ap (λ (x : Result ℕ Refusal). left_bytes x (file_bytes s) old) (written_same (length old)) ∙ ap (λ (x : List ℕ). left_bytes (written_of t (length old)) x old) file_same;
     gives_length = g.gives_length ∙ ap written_length (written_same (length old));
   }
 
@@ -75,32 +82,41 @@ module _ (s t : Schedule) (same : SameSchedule s t) where
 -- n, m and gap are the counts and the gap that were got. us, vs and ws hold the numbers that were got, as lists of any length that the counts fit: those themselves, or no more than is counted.
 module _ (b : List ℕ) (is : Bytes b) (code : ℕ) (ts ch pl : List ℕ) (n m gap : ℕ) (g : GivesSchedule (read_file b) code ts ch pl (n ∷ m ∷ gap ∷ [])) (fine : code ≡ 0)
     (us vs ws : List ℕ) (count : count_from (length us) n ≡ n) (tasks : take (4 * n) us ≡ take (4 * n) ts) (chained : held_from (length ws) m ≡ m) (chains : SameChains m ch pl vs ws) where
-  number : (read_file b).refusal.number ≡ 0
-  number = omega (arith, g.answers)
+  was_read : (s : Schedule) × (read_file b ≡ Ok s)
+  was_read = schedule_read b (sym g.answers ∙ fine)
 
-  sound : SoundSchedule (read_file b).schedule
-  sound = read_sound b is number
+  abbrev r : Schedule
+  r = was_read.0
 
-  read : schedule_from ts n ch pl m gap ≡ (read_file b).schedule
-  read = given_schedule (read_file b) code ts ch pl (n ∷ m ∷ gap ∷ []) g (read_arrays b is number) sound.few sound.few_chains (read_places b is number)
+  r_read : read_file b ≡ Ok r
+  r_read = was_read.1
 
-  n_is : n ≡ (read_file b).schedule.count
-  n_is = ap (λ (l : List ℕ). get_or l 0 0) g.gives_counts
+  given : GivesSchedule (Ok r) code ts ch pl (n ∷ m ∷ gap ∷ [])
+  given = rw r_read at g
+
+  sound : SoundSchedule r
+  sound = read_sound b is r r_read
+
+  read : schedule_from ts n ch pl m gap ≡ r
+  read = given_schedule r code ts ch pl (n ∷ m ∷ gap ∷ []) given (read_arrays b is r r_read) sound.few sound.few_chains (read_places b is r r_read)
+
+  n_is : n ≡ r.count
+  n_is = ap (λ (l : List ℕ). get_or l 0 0) given.gives_counts
 
   t_count : count_from (length ts) n ≡ n
   t_count = ap (λ (x : Schedule). x.count) read ∙ sym n_is
 
   t_chains : held_from (length pl) m ≡ m
-  t_chains = ap (λ (x : Schedule). x.chains) read ∙ sym (ap (λ (l : List ℕ). get_or l 1 0) g.gives_counts)
+  t_chains = ap (λ (x : Schedule). x.chains) read ∙ sym (ap (λ (l : List ℕ). get_or l 1 0) given.gives_counts)
 
   -- the lists that were got hold their own chains
   got_held : (c : ℕ) → c < m → held_from (length ch - 12 * c) (get_or pl c 0) ≡ get_or pl c 0
   got_held c h =
-      let e : m ≡ (read_file b).schedule.chains = ap (λ (l : List ℕ). get_or l 1 0) g.gives_counts in
+      let e : m ≡ r.chains = ap (λ (l : List ℕ). get_or l 1 0) given.gives_counts in
       let k : c < 4 = omega (arith, sound.few_chains) in
-      let p : get_or pl c 0 ≡ (get_or (read_file b).schedule.routes c no_route).count = ap (λ (l : List ℕ). get_or l c 0) g.gives_places ∙ count_at (read_file b).schedule.routes c k in
-      let l : length ch ≡ 48 = ap length g.gives_chains ∙ flat_long (read_file b).schedule.routes in
-      held_back (length ch - 12 * c) (get_or pl c 0) (omega (arith, read_places b is number c k))
+      let p : get_or pl c 0 ≡ (get_or r.routes c no_route).count = ap (λ (l : List ℕ). get_or l c 0) given.gives_places ∙ count_at r.routes c k in
+      let l : length ch ≡ 48 = ap length given.gives_chains ∙ flat_long r.routes in
+      held_back (length ch - 12 * c) (get_or pl c 0) (omega (arith, read_places b is r r_read c k))
 
   -- both are the same schedule
   pub same_given : SameSchedule (schedule_from us n vs ws m gap) (schedule_from ts n ch pl m gap)
@@ -118,9 +134,9 @@ module _ (b : List ℕ) (is : Bytes b) (code : ℕ) (ts ch pl : List ℕ) (n m g
       → (code' ≡ 0) × (long ≡ length b) × (new ≡ b ++ drop (length b) old)
   rewritten_for_c old h code' new long w =
       let k = gives_same (schedule_from us n vs ws m gap) (schedule_from ts n ch pl m gap) same_given old code' new long w in
-      let v : GivesFile (read_file b).schedule old code' new long = rw read at k in
-      let r = write_after_read b is number old h in
-      (v.answers ∙ ap written_code r.0, v.gives_length ∙ ap written_length r.0, v.leaves ∙ r.1)
+      let v : GivesFile r old code' new long = rw read at k in
+      let x = write_after_read b is r r_read old h in
+      (v.answers ∙ ap written_code x.0, v.gives_length ∙ ap written_length x.0, v.leaves ∙ x.1)
 
 -- ---- reading after writing
 
@@ -142,8 +158,8 @@ module _ (ts : List ℕ) (n : ℕ) (ch pl : List ℕ) (m gap : ℕ) (old : List 
   arrays : Arrays s
   arrays = from_arrays ts n ch pl m gap
 
-  is_written : written_of s (length old) ≡ written.Bytes long
-  is_written = written_zero s (length old) (sym w.answers ∙ fine) ∙ ap written.Bytes (sym w.gives_length)
+  is_written : written_of s (length old) ≡ Ok long
+  is_written = written_zero s (length old) (sym w.answers ∙ fine) ∙ ap Ok (sym w.gives_length)
 
   facts : Accepted s (length old) long
   facts = accepted s (length old) long is_written
@@ -153,10 +169,10 @@ module _ (ts : List ℕ) (n : ℕ) (ch pl : List ℕ) (m gap : ℕ) (old : List 
 
   file_there : take long new ≡ file_bytes s
   file_there =
-      ap (take long) (w.leaves ∙ ap (λ (x : Written). left_bytes x (file_bytes s) old) is_written)
+      ap (take long) (w.leaves ∙ ap (λ (x : Result ℕ Refusal). left_bytes x (file_bytes s) old) is_written)
       ∙ take_at (file_bytes s) (drop (length (file_bytes s)) old) long (sym facts.long)
 
-  is_read : read_file (take long new) ≡ record { refusal = none; schedule = cleared s }
+  is_read : read_file (take long new) ≡ Ok (cleared s)
   is_read = ap read_file file_there ∙ read_after_write s (length old) long arrays is_written
 
   parts : ((cleared s).count ≡ s.count) × ((cleared s).chains ≡ s.chains)
@@ -211,7 +227,7 @@ module _ (ts : List ℕ) (n : ℕ) (ch pl : List ℕ) (m gap : ℕ) (old : List 
       let q : (cleared s).chains ≡ m = parts.1 ∙ chains_are in
       let k : counts' ≡ n ∷ m ∷ gap ∷ [] = v.gives_counts ∙ ap (λ (x : ℕ). x ∷ (cleared s).chains ∷ gap ∷ []) d ∙ ap (λ (x : ℕ). n ∷ x ∷ gap ∷ []) q in
       let a = cleared_arrays s (length old) long arrays is_written in
-      let b = given_schedule (record { refusal = none; schedule = cleared s }) code' ts' ch' pl' counts' v a.0 (omega (arith, parts.0, sound_s.few)) (omega (arith, parts.1, sound_s.few_chains)) a.1 in
+      let b = given_schedule (cleared s) code' ts' ch' pl' counts' v a.0 (omega (arith, parts.0, sound_s.few)) (omega (arith, parts.1, sound_s.few_chains)) a.1 in
       record {
         accepted = v.answers;
         counted = k;

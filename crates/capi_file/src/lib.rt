@@ -6,8 +6,6 @@ ghost use Rattle.file_reader.specs.Reading.{read_file};
 ghost use Rattle.capi_schedule.specs.FlatSchedule.{schedule_from};
 ghost use Rattle.capi_file.specs.Calls.{GivesSchedule, GivesFile, GivesChain};
 
-use file_writer::Written;
-
 // Reads a schedule file: its tasks, its chains and their numbers of places, zeros past them, the two counts and the gap.
 pub fn mo_read_file(
     bytes: &[u8],
@@ -18,16 +16,22 @@ pub fn mo_read_file(
 ) -> u64
     ensures { GivesSchedule (read_file bytes.now) result tasks.new chains.new places.new counts.new }
 {
-    let read = file_reader::read_file(bytes);
-    let s = read.schedule;
-    let all = s.tasks;
-    let routes = s.routes;
-    *tasks = capi_schedule::flat_tasks(all);
-    *chains = capi_schedule::flat_routes(routes);
-    *places = capi_schedule::route_counts(routes);
-    *counts = [s.count as u64, s.chains as u64, s.gap];
-    let r = read.refusal;
-    r.code()
+    match file_reader::read_file(bytes) {
+        Ok(s) => {
+            *tasks = capi_schedule::flat_tasks(s.tasks);
+            *chains = capi_schedule::flat_routes(s.routes);
+            *places = capi_schedule::route_counts(s.routes);
+            *counts = [s.count as u64, s.chains as u64, s.gap];
+            0
+        }
+        Err(r) => {
+            *tasks = [0; 128];
+            *chains = [0; 48];
+            *places = [0; 4];
+            *counts = [0; 3];
+            r.code()
+        }
+    }
 }
 
 // Writes a schedule file into lent bytes, and gives its length.
@@ -44,13 +48,12 @@ pub fn mo_write_file(
     ensures { GivesFile (schedule_from tasks.now count chains.now places.now total gap) out.old result out.new length.new }
 {
     let s = capi_schedule::schedule_from(tasks, count, chains, places, total, gap);
-    let w = file_writer::write_file(s, out);
-    match w {
-        Written::Bytes(n) => {
+    match file_writer::write_file(s, out) {
+        Ok(n) => {
             *length = n as u64;
             0
         }
-        Written::Refused(r) => {
+        Err(r) => {
             *length = 0;
             r.code()
         }
@@ -72,10 +75,16 @@ pub fn mo_chain_of_schedule(
     ensures { GivesChain (schedule_from tasks.now count chains.now places.now total gap) number result flat.new held.new }
 {
     let s = capi_schedule::schedule_from(tasks, count, chains, places, total, gap);
-    let chosen = schedule_checks::chain_number(s, number);
-    let c = chosen.chain;
-    *flat = chain::flat(c);
-    *held = c.places as u64;
-    let r = chosen.refusal;
-    r.code()
+    match schedule_checks::chain_number(s, number) {
+        Ok(c) => {
+            *flat = chain::flat(c);
+            *held = c.places as u64;
+            0
+        }
+        Err(r) => {
+            *flat = [0; 36];
+            *held = 0;
+            r.code()
+        }
+    }
 }

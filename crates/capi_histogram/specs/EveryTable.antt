@@ -1,11 +1,12 @@
 -- Of any table, from code 0 of mo_histogram: the table is well-formed and the width at least 1, the list keeps its length, list and rest come to h, and in a list of mo_greatest's latency /
 -- width + 1 entries the rest is 0.
-use Rattle.std.specs.Prelude.{ℕ, ◌+◌, ◌*◌, ◌/◌, ◌≤◌, ◌≡◌, refl, Bool, true, false, cond, ltb, length}
+use Rattle.std.specs.Prelude.{ℕ, ◌+◌, ◌*◌, ◌/◌, ◌≤◌, ◌≡◌, refl, Bool, true, false, cond, ltb, length, Err, Result}
 use Rattle.std.proofs.Common.{arith, sym, ◌∙◌, true≢false, le-ltb}
 use Rattle.std.proofs.Math.Decide.{dec_lt}
 use Rattle.std.proofs.Math.Path.{ap}
 use mathlib.Core.List.{List, [], ◌∷◌}
 use Rattle.std.proofs.Math.ListN.{get_or}
+use Rattle.refusal.specs.declared.Refusal.{Refusal}
 use Rattle.ranges.specs.Entries.{sum}
 use Rattle.refusal.specs.Refusals.{refusal}
 use Rattle.table.specs.Anchors.{anchors}
@@ -13,15 +14,13 @@ use Rattle.table.specs.WellFormed.{well_formed, WellFormed}
 use Rattle.table.specs.Reading.{delay_at}
 use Rattle.table.specs.Figures.{greatest}
 use Rattle.table.specs.BothWays.{well_formed_iff, well_formed_laws}
-use Rattle.histogram.specs.declared.Histogram.{Histogram}
-use Rattle.histogram.specs.declared.Histogram.TheVariants.{Refused}
 use Rattle.histogram.specs.Histogram.{rest_of, histogram_of}
 use Rattle.histogram.proofs.EveryHyperperiod.{Counts, CountsDelays, every_hyperperiod, all_ticks}
 use Rattle.histogram.proofs.Reach.{long_enough}
 use Rattle.capi_histogram.specs.Calls.{histogram_numbers, GivesHistogram}
 
 -- a choice with code 0 is its first side
-first_side : (b : Bool) (x : Histogram) (number : ℕ) (code rest : ℕ) → (code ∷ rest ∷ []) ≡ histogram_numbers (cond b x (Refused (refusal (1 + number) 0))) → code ≡ 0 → b ≡ true
+first_side : (b : Bool) (x : Result ℕ Refusal) (number : ℕ) (code rest : ℕ) → (code ∷ rest ∷ []) ≡ histogram_numbers (cond b x (Err (refusal (1 + number) 0))) → code ≡ 0 → b ≡ true
 first_side true x number code rest e z = refl
 first_side false x number code rest e z = absurd (let q : code ≡ 1 + number + 256 * 0 = ap (λ (l : List ℕ). get_or l 0 0) e in omega arith)
 

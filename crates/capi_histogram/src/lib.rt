@@ -3,7 +3,7 @@
 
 ghost use Rattle.capi_histogram.specs.Calls.{GivesHistogram};
 
-use histogram::Histogram;
+use table::Table;
 
 // Entry i of `counts` gets the ticks with a delay from i × width up to below (i + 1) × width, `rest` those beyond the list.
 pub fn mo_histogram(
@@ -17,13 +17,19 @@ pub fn mo_histogram(
 ) -> u64
     ensures { GivesHistogram starts.now latencies.now g h width counts.old counts.new result rest.new }
 {
-    let a = histogram::histogram_of(starts, latencies, g as usize, h, width, counts);
+    let t = Table {
+        starts,
+        latencies,
+        anchors: g as usize,
+        hyperperiod: h,
+    };
+    let a = histogram::histogram_of(t, width, counts);
     match a {
-        Histogram::Rest(n) => {
+        Ok(n) => {
             *rest = n;
             0
         }
-        Histogram::Refused(f) => {
+        Err(f) => {
             *rest = 0;
             f.code()
         }

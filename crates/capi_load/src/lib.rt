@@ -3,15 +3,18 @@
 
 ghost use Rattle.capi_load.specs.Calls.{GivesLoad};
 
-use load::Load;
-
 // T, D, F of each place of the chain that a seed and a number of places make, with zeros past them.
 pub fn mo_load(seed: u64, places: usize, tasks: &mut [u64; 36]) -> u64
     ensures { GivesLoad seed places result tasks.new }
 {
-    let m = load::make_load(seed, places);
-    let list = chain::flat(m.chain);
-    *tasks = list;
-    let r = m.refusal;
-    r.code()
+    match load::make_load(seed, places) {
+        Ok(c) => {
+            *tasks = chain::flat(c);
+            0
+        }
+        Err(r) => {
+            *tasks = [0; 36];
+            r.code()
+        }
+    }
 }

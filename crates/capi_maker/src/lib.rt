@@ -5,7 +5,7 @@ ghost use Rattle.std.specs.Prelude.{◌≡◌, ◌*◌};
 ghost use Rattle.capi_chain.specs.FlatChain.{chain_from};
 ghost use Rattle.capi_maker.specs.Calls.{figure_numbers, GivesTable};
 
-use maker::{Figures, Made};
+use maker::{Figures, Unmade};
 
 // The figures as four numbers: g, x0, H and the number of partitions walked.
 fn numbers_of(f: Figures) -> [u64; 4]
@@ -30,15 +30,15 @@ pub fn mo_make_table(
     let n = capi_chain::flat_length(tasks.len(), places);
     let m = maker::make_table_on(&tasks[..n], gap, p, starts, latencies);
     match m {
-        Made::Whole(f) => {
+        Ok(f) => {
             *figures = numbers_of(f);
             0
         }
-        Made::Short(f) => {
+        Err(Unmade::Short(f)) => {
             *figures = numbers_of(f);
             11
         }
-        Made::Refused(r) => {
+        Err(Unmade::Refused(r)) => {
             *figures = [0, 0, 0, 0];
             r.code()
         }

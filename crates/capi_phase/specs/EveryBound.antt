@@ -1,10 +1,9 @@
 -- mo_smallest_phase: what its numbers say, for every schedule and all numbers. With code 0 and none 0 the phase is the smallest that keeps the bound (`found_for_c`), with none 1 there is no such phase (`none_for_c`),
 -- and each of the two is answered wherever it is so (`smallest_for_c`, `no_phase_for_c`). What the phase means for the presses is said in phase/specs/Smallest.
-use Rattle.std.specs.Prelude.{ℕ, ◌≡◌, refl, List, [], ◌∷◌, get_or}
+use Rattle.std.specs.Prelude.{ℕ, ◌≡◌, refl, List, [], ◌∷◌, get_or, Err, None, Ok, Option, Result, Some}
 use Rattle.std.proofs.Common.{arith, sym, ap, ◌∙◌}
+use Rattle.refusal.specs.declared.Refusal.{Refusal}
 use Rattle.schedule.specs.declared.Schedule.{Schedule}
-use Rattle.phase.specs.declared.Phase.{Phase}
-use Rattle.phase.specs.declared.Phase.TheVariants.{Of, Nothing, Refused}
 use Rattle.phase.specs.Phases.{keeps_bound, period_of, phase_from}
 use Rattle.phase.specs.Search.{SmallestPhase, NoPhase}
 use Rattle.phase.specs.Smallest.{Passed, smallest_phase, none_exactly}
@@ -19,20 +18,20 @@ module _ (s : Schedule) (n number bound code phase none : ℕ) (gives : GivesPha
   pub found_for_c : code ≡ 0 → none ≡ 0 → Passed s n number × SmallestPhase (keeps_bound s n number bound) (period_of s number) phase
   found_for_c fine some = go (phase_from s n number bound) refl gives (refusals_small s n number bound)
     where
-      go : (p : Phase) → phase_from s n number bound ≡ p → (code ∷ phase ∷ none ∷ []) ≡ phase_numbers p → SmallPhase p
+      go : (p : Result (Option ℕ) Refusal) → phase_from s n number bound ≡ p → (code ∷ phase ∷ none ∷ []) ≡ phase_numbers p → SmallPhase p
           → Passed s n number × SmallestPhase (keeps_bound s n number bound) (period_of s number) phase
-      go (Of F) e g k = (smallest_phase s n number bound phase).0 (e ∙ ap Of (sym (entry 1 g)))
-      go Nothing e g k = absurd (omega (arith, entry 2 g))
-      go (Refused r) e g k = absurd (omega (arith, entry 0 g, k.0))
+      go (Ok (Some F)) e g k = (smallest_phase s n number bound phase).0 (e ∙ ap (λ (x : ℕ). Ok (Some x)) (sym (entry 1 g)))
+      go (Ok None) e g k = absurd (omega (arith, entry 2 g))
+      go (Err r) e g k = absurd (omega (arith, entry 0 g, k.0))
 
   pub none_for_c : none ≡ 1 → (code ≡ 0) × Passed s n number × NoPhase (keeps_bound s n number bound) (period_of s number)
   none_for_c some = go (phase_from s n number bound) refl gives
     where
-      go : (p : Phase) → phase_from s n number bound ≡ p → (code ∷ phase ∷ none ∷ []) ≡ phase_numbers p
+      go : (p : Result (Option ℕ) Refusal) → phase_from s n number bound ≡ p → (code ∷ phase ∷ none ∷ []) ≡ phase_numbers p
           → (code ≡ 0) × Passed s n number × NoPhase (keeps_bound s n number bound) (period_of s number)
-      go (Of F) e g = absurd (omega (arith, entry 2 g))
-      go Nothing e g = let k = (none_exactly s n number bound).0 e in (entry 0 g, k.0, k.1)
-      go (Refused r) e g = absurd (omega (arith, entry 2 g))
+      go (Ok (Some F)) e g = absurd (omega (arith, entry 2 g))
+      go (Ok None) e g = let k = (none_exactly s n number bound).0 e in (entry 0 g, k.0, k.1)
+      go (Err r) e g = absurd (omega (arith, entry 2 g))
 
   pub smallest_for_c : (F : ℕ) → Passed s n number → SmallestPhase (keeps_bound s n number bound) (period_of s number) F → (code ≡ 0) × (phase ≡ F) × (none ≡ 0)
   smallest_for_c F a k =

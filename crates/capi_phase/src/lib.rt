@@ -5,8 +5,6 @@
 ghost use Rattle.capi_schedule.specs.FlatSchedule.{schedule_from};
 ghost use Rattle.capi_phase.specs.Calls.{GivesPhase};
 
-use phase::Phase;
-
 // The smallest phase of the task with a number with which chain `chain`, counted from 1, has no latency above the bound; or `none` 1.
 #[unsafe(no_mangle)]
 pub extern "C" fn mo_smallest_phase(
@@ -27,17 +25,19 @@ pub extern "C" fn mo_smallest_phase(
     let s = capi_schedule::schedule_from(tasks, count, chains, places, total, gap);
     let a = phase::smallest_phase(s, chain, number, bound);
     match a {
-        Phase::Of(f) => {
-            *phase = f;
-            *none = 0;
-            0
-        }
-        Phase::Nothing => {
-            *phase = 0;
-            *none = 1;
-            0
-        }
-        Phase::Refused(r) => {
+        Ok(found) => match found {
+            Some(f) => {
+                *phase = f;
+                *none = 0;
+                0
+            }
+            None => {
+                *phase = 0;
+                *none = 1;
+                0
+            }
+        },
+        Err(r) => {
             *phase = 0;
             *none = 0;
             r.code()

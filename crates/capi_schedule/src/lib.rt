@@ -7,25 +7,20 @@ ghost use Rattle.std.specs.Prelude.{◌≡◌, ◌+◌, ◌*◌, ◌≤◌, ◌<
 ghost use Rattle.capi_schedule.specs.FlatSchedule.{numbered_at, tasks_from, count_from, held_from, places_from, route_from, routes_from, schedule_from, flat_tasks, flat_routes, route_counts};
 
 use schedule::{NumberedTask, Route, Schedule};
+use std::array;
 use task::Task;
 
 // ---- a schedule from lists
 
 // Task i of a flat list; zeros where the list does not hold it whole.
+#[tactic(auto, using(crate::proofs::Flat::zero_task_is), unfolding(crate::specs::FlatSchedule::numbered_at))]
 fn numbered_at(list: &[u64], i: usize) -> NumberedTask
     requires { i < 32 }
     ensures { result ≡ numbered_at list.now i }
 {
     let at = 4 * i;
     if list.len() < at + 4 {
-        return NumberedTask {
-            number: 0,
-            task: Task {
-                period: 0,
-                duration: 0,
-                phase: 0,
-            },
-        };
+        return NumberedTask::default();
     }
     NumberedTask {
         number: list[at],
@@ -41,25 +36,11 @@ fn numbered_at(list: &[u64], i: usize) -> NumberedTask
 fn tasks_from(list: &[u64]) -> [NumberedTask; 32]
     ensures { result ≡ tasks_from list.now }
 {
-    let zero = NumberedTask {
-        number: 0,
-        task: Task {
-            period: 0,
-            duration: 0,
-            phase: 0,
-        },
-    };
-    let mut tasks = [zero; 32];
-    let mut i: usize = 0;
-    while i < 32 {
-        let t = numbered_at(list, i);
-        tasks[i] = t;
-        i += 1;
-    }
-    tasks
+    array::from_fn(|i| numbered_at(list, i))
 }
 
 // The number of tasks, or 0 where the list does not hold that many.
+#[tactic(auto, unfolding(crate::specs::FlatSchedule::count_from))]
 fn count_from(long: usize, count: usize) -> usize
     ensures { result ≡ count_from long count }
 {
@@ -73,6 +54,7 @@ fn count_from(long: usize, count: usize) -> usize
 }
 
 // A count, or 0 where a list of so many entries does not hold that many.
+#[tactic(auto, unfolding(crate::specs::FlatSchedule::held_from))]
 fn held_from(long: usize, count: usize) -> usize
     ensures { result ≡ held_from long count }
 {
@@ -87,20 +69,11 @@ fn places_from(list: &[u64], from: usize) -> [u64; 12]
     requires { from ≤ 36 }
     ensures { result ≡ places_from list.now from }
 {
-    let mut chain = [0u64; 12];
-    let mut i: usize = 0;
-    while i < 12 {
-        if from + i < list.len() {
-            chain[i] = list[from + i];
-            i += 1;
-        } else {
-            i += 1;
-        }
-    }
-    chain
+    array::from_fn(|i| list.get(from + i).copied().unwrap_or(0))
 }
 
 // Chain c of the lists.
+#[tactic(auto, using(crate::proofs::Flat::none_counted, crate::proofs::Flat::none_held))]
 fn route_from(chains: &[u64], places: &[u64], c: usize) -> Route
     requires { c < 4 }
     ensures { result ≡ route_from chains.now places.now c }
@@ -128,18 +101,7 @@ fn route_from(chains: &[u64], places: &[u64], c: usize) -> Route
 fn routes_from(chains: &[u64], places: &[u64]) -> [Route; 4]
     ensures { result ≡ routes_from chains.now places.now }
 {
-    let none = Route {
-        places: [0; 12],
-        count: 0,
-    };
-    let mut routes = [none; 4];
-    let mut c: usize = 0;
-    while c < 4 {
-        let r = route_from(chains, places, c);
-        routes[c] = r;
-        c += 1;
-    }
-    routes
+    array::from_fn(|c| route_from(chains, places, c))
 }
 
 // The schedule of the lists, their counts and the gap.
@@ -170,16 +132,12 @@ pub fn schedule_from(
 pub fn flat_tasks(tasks: [NumberedTask; 32]) -> [u64; 128]
     ensures { result ≡ flat_tasks tasks }
 {
-    let mut flat = [0u64; 128];
-    let mut i: usize = 0;
-    while i < 32 {
-        let t = tasks[i];
-        let a = t.task;
+    let mut flat = [0; 128];
+    for (i, t) in tasks.iter().enumerate() {
         flat[4 * i] = t.number;
-        flat[4 * i + 1] = a.period;
-        flat[4 * i + 2] = a.duration;
-        flat[4 * i + 3] = a.phase;
-        i += 1;
+        flat[4 * i + 1] = t.task.period;
+        flat[4 * i + 2] = t.task.duration;
+        flat[4 * i + 3] = t.task.phase;
     }
     flat
 }
@@ -188,26 +146,12 @@ pub fn flat_tasks(tasks: [NumberedTask; 32]) -> [u64; 128]
 pub fn flat_routes(routes: [Route; 4]) -> [u64; 48]
     ensures { result ≡ flat_routes routes }
 {
-    let mut flat = [0u64; 48];
-    let mut i: usize = 0;
-    while i < 48 {
-        let c = routes[i / 12];
-        flat[i] = c.places[i % 12];
-        i += 1;
-    }
-    flat
+    array::from_fn(|i| routes[i / 12].places[i % 12])
 }
 
 // The numbers of places of chains.
 pub fn route_counts(routes: [Route; 4]) -> [u64; 4]
     ensures { result ≡ route_counts routes }
 {
-    let mut counts = [0u64; 4];
-    let mut i: usize = 0;
-    while i < 4 {
-        let c = routes[i];
-        counts[i] = c.count as u64;
-        i += 1;
-    }
-    counts
+    routes.map(|route| route.count as u64)
 }

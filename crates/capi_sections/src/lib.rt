@@ -4,8 +4,6 @@
 ghost use Rattle.capi_chain.specs.FlatChain.{chain_from};
 ghost use Rattle.capi_sections.specs.Calls.{GivesSections};
 
-use sections::Sections;
-
 // The greatest latency of each section of a chain that is cut, with zeros past them, the number of sections, and the sum with one gap for each cut.
 pub fn mo_sections(
     tasks: &[u64],
@@ -19,11 +17,19 @@ pub fn mo_sections(
     ensures { GivesSections (chain_from tasks.now places gap) cuts.now result latencies.new count.new sum.new }
 {
     let n = capi_chain::flat_length(tasks.len(), places);
-    let s = sections::section_latencies_on(&tasks[..n], gap, cuts);
-    let all = s.latencies;
-    *latencies = all;
-    *count = s.count as u64;
-    *sum = s.sum;
-    let r = s.refusal;
-    r.code()
+    match sections::section_latencies_on(&tasks[..n], gap, cuts) {
+        Ok(s) => {
+            let all = s.latencies;
+            *latencies = all;
+            *count = s.count as u64;
+            *sum = s.sum;
+            0
+        }
+        Err(r) => {
+            *latencies = [0; 12];
+            *count = 0;
+            *sum = 0;
+            r.code()
+        }
+    }
 }

@@ -7,21 +7,20 @@ ghost use Rattle.capi_chain.specs.FlatChain.{chain_from};
 ghost use Rattle.timing.specs.Answers.{warm_up_of};
 ghost use Rattle.capi_timing.specs.Calls.{span_code, span_ticks, job_number, GivesCheck, GivesDelay, GivesAge, GivesWarmUp, SmallSpan};
 
-use chain::Verdict;
+use refusal::Refusal;
 use task::{Job, Tick};
-use timing::Span;
 
 // Gives a span of ticks: its code, and its ticks to the number lent.
-fn give(s: Span, out: &mut u64) -> u64
+fn give(s: Result<u64, Refusal>, out: &mut u64) -> u64
     requires { SmallSpan s }
     ensures { (result ≡ span_code s) × (out.new ≡ span_ticks s) }
 {
     match s {
-        Span::Ticks(n) => {
+        Ok(n) => {
             *out = n;
             0
         }
-        Span::Refused(r) => {
+        Err(r) => {
             *out = 0;
             r.code()
         }
@@ -32,14 +31,7 @@ fn give(s: Span, out: &mut u64) -> u64
 fn job_numbers(all: [Job; 12]) -> [u64; 12]
     ensures { result ≡ map job_number all }
 {
-    let mut numbers = [0u64; 12];
-    let mut i: usize = 0;
-    while i < 12 {
-        let j = all[i];
-        numbers[i] = j.0;
-        i += 1;
-    }
-    numbers
+    all.map(|job| job.0)
 }
 
 // The checks of a chain, 8, 5 and 7, and its hyperperiod.
@@ -49,11 +41,11 @@ pub fn mo_check(tasks: &[u64], places: usize, gap: u64, hyperperiod: &mut u64) -
     let n = capi_chain::flat_length(tasks.len(), places);
     let v = chain::check_on(&tasks[..n], gap);
     match v {
-        Verdict::Accepted(h) => {
+        Ok(h) => {
             *hyperperiod = h;
             0
         }
-        Verdict::Refused(r) => {
+        Err(r) => {
             *hyperperiod = 0;
             r.code()
         }
@@ -72,14 +64,20 @@ pub fn mo_warm_up(
     ensures { GivesWarmUp (warm_up_of (chain_from tasks.now places gap)) result jobs.new tick.new hyperperiod.new }
 {
     let n = capi_chain::flat_length(tasks.len(), places);
-    let w = timing::warm_up_on(&tasks[..n], gap);
-    let all = w.jobs;
-    *jobs = job_numbers(all);
-    let from = w.tick;
-    *tick = from.0;
-    *hyperperiod = w.hyperperiod;
-    let r = w.refusal;
-    r.code()
+    match timing::warm_up_on(&tasks[..n], gap) {
+        Ok(w) => {
+            *jobs = job_numbers(w.jobs);
+            *tick = w.tick.0;
+            *hyperperiod = w.hyperperiod;
+            0
+        }
+        Err(r) => {
+            *jobs = [0; 12];
+            *tick = 0;
+            *hyperperiod = 0;
+            r.code()
+        }
+    }
 }
 
 // Walking: the delay of a press at tick t.

@@ -4,8 +4,6 @@
 ghost use Rattle.capi_chain.specs.FlatChain.{chain_from};
 ghost use Rattle.capi_windows.specs.Calls.{GivesWindows};
 
-use windows::Windows;
-
 // The largest number of misses of b in k successive jobs of the first place, and the earliest starting job whose window has as many.
 pub fn mo_windows(
     tasks: &[u64],
@@ -19,14 +17,13 @@ pub fn mo_windows(
     ensures { GivesWindows (chain_from tasks.now places gap) b k result misses.new first.new }
 {
     let n = capi_chain::flat_length(tasks.len(), places);
-    let w = windows::most_misses_on(&tasks[..n], gap, b, k);
-    match w {
-        Windows::Most(m, j) => {
-            *misses = m;
-            *first = j.0;
+    match windows::most_misses_on(&tasks[..n], gap, b, k) {
+        Ok(w) => {
+            *misses = w.most;
+            *first = w.first.0;
             0
         }
-        Windows::Refused(r) => {
+        Err(r) => {
             *misses = 0;
             *first = 0;
             r.code()

@@ -1,4 +1,5 @@
 -- What the checks 8, 5 and 7 say of a chain, and the steps of the loops that make them.
+use Rattle.std.specs.Prelude.{Err, Ok, Result, Some}
 use Prim.Native.Nat.{ℕ, zero, suc, ◌+◌, ◌-◌, ◌≤◌, ◌<◌}
 use native.Mathlib.Omega.{arith}
 use mathlib.Core.Path.{◌≡◌, refl, sym, ◌∙◌}
@@ -8,6 +9,7 @@ use lib.Dec.{leb}
 use lib.ListN.{length, get_or, drop, length-drop, length-take, length-map}
 use lib.Seq.{get_or-drop, length-take-le}
 use borrow.Author.Tests.{le-leb, lt-leb, leb-true}
+use Rattle.refusal.specs.declared.Refusal.{Refusal}
 use Rattle.refusal.specs.Refusals.{refusal}
 use Rattle.task.specs.declared.Task.{Task}
 use Rattle.task.specs.declared.Place.{Place}
@@ -15,13 +17,12 @@ use Rattle.task.specs.Jobs.{place_of, within_limits, Within, gap_limit}
 use Rattle.task.proofs.LinkLaws.{limits, limits_placed}
 use Rattle.euclid.specs.Divisor.{lcm_of}
 use Rattle.chain.specs.declared.Chain.{Chain}
-use Rattle.chain.specs.declared.Verdict.{Verdict}
-use Rattle.chain.specs.declared.Verdict.TheVariants.{Accepted, Refused}
 use Rattle.chain.specs.Chains.{given_of, placed, tasks_of, at, zero_task, zero_place}
 use Rattle.chain.specs.Placed.{at_placed}
 use Rattle.chain.specs.Hyperperiod.{hyper_from, hyper_of}
-use Rattle.chain.specs.Checks.{first_fault, after_fault, hyper_verdict, after_gap, verdict_for, verdict_of, verdict_in, Sound, Checked}
+use Rattle.chain.specs.Checks.{found, first_fault, after_fault, hyper_verdict, after_gap, verdict_for, verdict_of, verdict_in, Sound, Checked}
 use Rattle.chain.specs.StandsFor.{eight}
+use Rattle.chain.proofs.Found.{found_some}
 
 -- ---- 5
 
@@ -65,30 +66,27 @@ pub hyper_nil : (h : ℕ) → hyper_from h [] ≡ h
 unfolding hyper_from
 hyper_nil h = refl
 
-pub hyper_accepted : (l : List Place) (h : ℕ) → hyper_of l ≡ h → h ≤ 60000000 → Accepted h ≡ hyper_verdict l
+pub hyper_accepted : (l : List Place) (h : ℕ) → hyper_of l ≡ h → h ≤ 60000000 → Ok h ≡ hyper_verdict l
 unfolding hyper_verdict
 hyper_accepted l h e g = rw (e, le-leb h 60000000 g)
 
-pub hyper_above : (l : List Place) → 60000000 < hyper_of l → Refused (refusal 7 0) ≡ hyper_verdict l
+pub hyper_above : (l : List Place) → 60000000 < hyper_of l → Err (refusal 7 0) ≡ hyper_verdict l
 unfolding hyper_verdict
 hyper_above l g = rw (lt-leb (hyper_of l) 60000000 g)
 
 -- ---- all three
 
 module _ (n g : ℕ) (l : List Task) where
-  pub check_low : n < 1 → Refused (refusal 8 0) ≡ verdict_for n g l
-  check_low h = sym (eight n g l (λ k. absurd (omega arith)))
-
-  pub check_high : 1 ≤ n → 12 < n → Refused (refusal 8 0) ≡ verdict_for n g l
-  check_high m h = sym (eight n g l (λ k. h))
+  pub check_places : (1 ≤ n → 12 < n) → Err (refusal 8 0) ≡ verdict_for n g l
+  check_places h = sym (eight n g l h)
 
   module _ (low : 1 ≤ n) (high : n ≤ 12) where
-    pub check_fault : (p : ℕ) → p ≡ first_fault 1 l → (p ≡ 0 → ⊥) → Refused (refusal 5 p) ≡ verdict_for n g l
+    pub check_fault : (p : ℕ) → Some p ≡ found (first_fault 1 l) → Err (refusal 5 p) ≡ verdict_for n g l
     unfolding verdict_for
-    check_fault zero e k = absurd (k refl)
-    check_fault (suc p) e k = rw (le-leb 1 n low, le-leb n 12 high, sym e)
+    check_fault zero e = absurd (omega (arith, (found_some _ _ e).1))
+    check_fault (suc p) e = rw (le-leb 1 n low, le-leb n 12 high, (found_some _ _ e).0)
 
-    pub check_gap : 0 ≡ first_fault 1 l → gap_limit < g → Refused (refusal 5 0) ≡ verdict_for n g l
+    pub check_gap : 0 ≡ first_fault 1 l → gap_limit < g → Err (refusal 5 0) ≡ verdict_for n g l
     unfolding verdict_for after_gap
     check_gap e k = rw (le-leb 1 n low, le-leb n 12 high, sym e, lt-leb g gap_limit k)
 
@@ -105,12 +103,12 @@ module _ (n g : ℕ) (l : List Task) where
     hyper : h ≡ hyper_of (placed g l)
     small : h ≤ 60000000
 
-  passed : (h : ℕ) → verdict_for n g l ≡ Accepted h → Passed h
+  passed : (h : ℕ) → verdict_for n g l ≡ Ok h → Passed h
   unfolding verdict_for after_gap hyper_verdict
   passed h e = go (leb 1 n) (leb n 12) (first_fault 1 l) (leb g gap_limit) (leb (hyper_of (placed g l)) 60000000) refl refl refl refl refl e
     where
       go : (a b : Bool) (f : ℕ) (s d : Bool) → leb 1 n ≡ a → leb n 12 ≡ b → first_fault 1 l ≡ f → leb g gap_limit ≡ s → leb (hyper_of (placed g l)) 60000000 ≡ d
-          → cond (a && b) (after_fault f (cond s (cond d (Accepted (hyper_of (placed g l))) (Refused (refusal 7 0))) (Refused (refusal 5 0)))) (Refused (refusal 8 0)) ≡ Accepted h → Passed h
+          → cond (a && b) (after_fault f (cond s (cond d (Ok (hyper_of (placed g l))) (Err (refusal 7 0))) (Err (refusal 5 0)))) (Err (refusal 8 0)) ≡ Ok h → Passed h
       go true true zero true true x y f s d k =
           let z : hyper_of (placed g l) ≡ h = cc in
           record { low = leb-true _ _ x; high = leb-true _ _ y; no_fault = f; permitted = leb-true _ _ s; hyper = sym z; small = omega (arith, leb-true (hyper_of (placed g l)) 60000000 d) }
@@ -126,7 +124,7 @@ pub record FactsIn (l : List Place) (h : ℕ) : Type 0 where
   pub hyper : h ≡ hyper_of l
   pub small : h ≤ 60000000
 
-pub accepted_in : (g : ℕ) (l : List Task) (h : ℕ) → verdict_in g l ≡ Accepted h → FactsIn (placed g l) h
+pub accepted_in : (g : ℕ) (l : List Task) (h : ℕ) → verdict_in g l ≡ Ok h → FactsIn (placed g l) h
 accepted_in g l h e = let k = passed (length l) g l h e in record { sound = sound g l k.low k.high k.no_fault k.permitted; hyper = k.hyper; small = k.small }
 
 -- and an accepted chain
@@ -135,7 +133,7 @@ pub record Facts (c : Chain) (h : ℕ) : Type 0 where
   pub hyper : h ≡ hyper_of (tasks_of c)
   pub small : h ≤ 60000000
 
-pub accepted : (c : Chain) (h : ℕ) → length c.tasks ≡ 12 → verdict_of c ≡ Accepted h → Facts c h
+pub accepted : (c : Chain) (h : ℕ) → length c.tasks ≡ 12 → verdict_of c ≡ Ok h → Facts c h
 accepted c h twelve e =
     let k = passed c.places c.gap (given_of c) h e in
     let n : length (given_of c) ≡ c.places = length-take-le c.places c.tasks (omega (arith, k.high)) in
@@ -159,16 +157,16 @@ fault_small (a ∷ l) p = go (within_limits a) (fault_small l (p + 1))
     go true ih = omega arith
     go false ih = omega arith
 
-abbrev pub SmallVerdict : Verdict → Type 0
-SmallVerdict (Accepted h) = Unit {0}
-SmallVerdict (Refused r) = (r.number < 256) × (r.place ≤ 100) × (1 ≤ r.number)
+abbrev pub SmallVerdict : Result ℕ Refusal → Type 0
+SmallVerdict (Ok h) = Unit {0}
+SmallVerdict (Err r) = (r.number < 256) × (r.place ≤ 100) × (1 ≤ r.number)
 
 pub verdict_small : (c : Chain) → SmallVerdict (verdict_of c)
 unfolding verdict_for after_gap hyper_verdict
 verdict_small c = go (leb 1 c.places) (leb c.places 12) (first_fault 1 (given_of c)) (leb c.gap gap_limit) (leb (hyper_of (tasks_of c)) 60000000) refl (fault_small (given_of c) 1)
   where
     go : (a b : Bool) (f : ℕ) (s d : Bool) → leb c.places 12 ≡ b → f ≤ 1 + length (given_of c)
-        → SmallVerdict (cond (a && b) (after_fault f (cond s (cond d (Accepted (hyper_of (tasks_of c))) (Refused (refusal 7 0))) (Refused (refusal 5 0)))) (Refused (refusal 8 0)))
+        → SmallVerdict (cond (a && b) (after_fault f (cond s (cond d (Ok (hyper_of (tasks_of c))) (Err (refusal 7 0))) (Err (refusal 5 0)))) (Err (refusal 8 0)))
     go true true zero true true e h = tt
     go true true zero true false e h = (omega arith, omega arith, omega arith)
     go true true zero false d e h = (omega arith, omega arith, omega arith)

@@ -1,4 +1,5 @@
 pub mod Filling
 pub mod Front
+pub mod Found
 pub mod CheckLaws
 pub mod Steps

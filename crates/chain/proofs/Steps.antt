@@ -1,4 +1,5 @@
 -- One step of each way, with the places as the loops count them.
+use Rattle.std.specs.Prelude.{None, Some}
 use Prim.Native.Nat.{ℕ, suc, ◌+◌, ◌-◌, ◌≤◌, ◌<◌}
 use native.Mathlib.Omega.{arith}
 use mathlib.Core.Path.{◌≡◌, ap, ◌∙◌}
@@ -6,7 +7,6 @@ use mathlib.Core.List.{List}
 use lib.ListN.{length}
 use Rattle.task.specs.declared.Place.{Place}
 use Rattle.task.specs.declared.Job.{Job}
-use Rattle.task.specs.declared.Latest.TheVariants.{Of, Nothing}
 use Rattle.task.specs.Links.{forward_link, backward_link}
 use Rattle.task.specs.Jobs.{read_of, write_of, readable_of}
 use Rattle.task.proofs.LinkLaws.{backward_earlier}
@@ -18,7 +18,7 @@ pub forward_none : (l : List Place) (p j : ℕ) → j ≡ forward_by l p (p - p)
 unfolding forward_by
 forward_none l p j = let a : p - p ≡ 0 = omega arith in rw a
 
-pub backward_none : (l : List Place) (p m : ℕ) → Of (record { 0 = m }) ≡ backward_by l p (p - p) m
+pub backward_none : (l : List Place) (p m : ℕ) → Some (record { 0 = m }) ≡ backward_by l p (p - p) m
 unfolding backward_by
 backward_none l p m = let a : p - p ≡ 0 = omega arith in rw a
 
@@ -47,13 +47,13 @@ module _ (l : List Place) (p : ℕ) where
         let d : p + (i - 1 - p) ≡ i - 1 = omega arith in
         rw (n, c, d, before, here)
 
-    pub backward_step : (j : Job) → backward_link a b m ≡ Of j → backward_by l p (i - p) m ≡ backward_by l p (i - 1 - p) j.0
+    pub backward_step : (j : Job) → backward_link a b m ≡ Some j → backward_by l p (i - p) m ≡ backward_by l p (i - 1 - p) j.0
     unfolding on_latest
     backward_step j e = backward_unfold ∙ rw e
 
-    pub backward_stop : backward_link a b m ≡ Nothing → backward_by l p (i - p) m ≡ Nothing
+    pub backward_stop : backward_link a b m ≡ None → backward_by l p (i - p) m ≡ None
     unfolding on_latest
     backward_stop e = backward_unfold ∙ rw e
 
-    pub backward_small : 1 ≤ a.period → read_of b m ≤ 1500000000000 → (j : Job) → backward_link a b m ≡ Of j → read_of a j.0 ≤ 1500000000000
+    pub backward_small : 1 ≤ a.period → read_of b m ≤ 1500000000000 → (j : Job) → backward_link a b m ≡ Some j → read_of a j.0 ≤ 1500000000000
     backward_small pos top j e = omega (arith, backward_earlier a b pos m j e)

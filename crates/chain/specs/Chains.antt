@@ -1,10 +1,9 @@
 -- Document 01, "Chains", with order 5 of document 02: the tasks at a chain's places, and the ways forward and backward along them.
 -- Places are counted from 0 here: document 01's place p is place p − 1.
-use Rattle.std.specs.Prelude.{ℕ, zero, suc, ◌+◌, ◌-◌, List, map, length, take, get_or}
+use Rattle.std.specs.Prelude.{ℕ, zero, suc, ◌+◌, ◌-◌, List, map, length, take, get_or, None, Option, Some}
+use Rattle.task.specs.declared.Job.{Job}
 use Rattle.task.specs.declared.Task.{Task}
 use Rattle.task.specs.declared.Place.{Place}
-use Rattle.task.specs.declared.Latest.{Latest}
-use Rattle.task.specs.declared.Latest.TheVariants.{Of, Nothing}
 use Rattle.task.specs.Jobs.{place_of}
 use Rattle.task.specs.Links.{forward_link, backward_link}
 use Rattle.chain.specs.declared.Chain.{Chain}
@@ -41,23 +40,23 @@ forward_by l p zero j = j
 forward_by l p (suc n) j = forward_link (at l (p + n)) (at l (p + suc n)) (forward_by l p n j)
 
 -- What a way goes on with from the latest job, if there is one.
-unfoldable pub on_latest : Latest → (ℕ → Latest) → Latest
-on_latest Nothing f = Nothing
-on_latest (Of j) f = f j.0
+unfoldable pub on_latest : Option Job → (ℕ → Option Job) → Option Job
+on_latest None f = None
+on_latest (Some j) f = f j.0
 
 -- Backward from job m at place p + n, n places back to place p; there may be none.
-unfoldable pub backward_by : List Place → ℕ → ℕ → ℕ → Latest
-backward_by l p zero m = Of (record { 0 = m })
+unfoldable pub backward_by : List Place → ℕ → ℕ → ℕ → Option Job
+backward_by l p zero m = Some (record { 0 = m })
 backward_by l p (suc n) m = on_latest (backward_link (at l (p + n)) (at l (p + suc n)) m) (backward_by l p n)
 
 -- The whole way: from a job of the first place to one of the last, and back.
 abbrev pub walk : List Place → ℕ → ℕ
 walk l j = forward_by l 0 (last_place l) j
 
-abbrev pub back : List Place → ℕ → Latest
+abbrev pub back : List Place → ℕ → Option Job
 back l k = backward_by l 0 (last_place l) k
 
 -- The job found, and 0 where there is none.
-abbrev pub job_of : Latest → ℕ
-job_of (Of j) = j.0
-job_of Nothing = 0
+abbrev pub job_of : Option Job → ℕ
+job_of (Some j) = j.0
+job_of None = 0

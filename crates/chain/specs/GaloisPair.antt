@@ -1,11 +1,10 @@
 -- Laws of any two functions on job numbers, f forward and b counting back, of which f j < n exactly when j < b n; and a way along a chain as such a pair.
 -- The count back from n is how many jobs of the earlier place go forward to a job below n: 0 where there is none, else one more than the latest.
-use Rattle.std.specs.Prelude.{ℕ, zero, suc, ◌+◌, ◌≤◌, ◌<◌, ◌≡◌, ◌↔◌, List}
+use Rattle.std.specs.Prelude.{ℕ, zero, suc, ◌+◌, ◌≤◌, ◌<◌, ◌≡◌, ◌↔◌, List, None, Option, Some}
 use Rattle.std.proofs.Common.{arith}
 use Rattle.std.proofs.Math.Decide.{dec_lt, dec_le}
+use Rattle.task.specs.declared.Job.{Job}
 use Rattle.task.specs.declared.Place.{Place}
-use Rattle.task.specs.declared.Latest.{Latest}
-use Rattle.task.specs.declared.Latest.TheVariants.{Of, Nothing}
 use Rattle.task.proofs.LinkLaws.{AtLeast}
 use Rattle.chain.specs.Chains.{forward_by, backward_by}
 use Rattle.chain.specs.Galois.{Periods, galois}
@@ -61,18 +60,18 @@ module _ (f b : ℕ → ℕ) (gal : (j n : ℕ) → (f j < n) ↔ (j < b n)) whe
 
 -- ---- a way along a chain
 
-abbrev pub count_of : Latest → ℕ
-count_of (Of j) = suc j.0
-count_of Nothing = 0
+abbrev pub count_of : Option Job → ℕ
+count_of (Some j) = suc j.0
+count_of None = 0
 
 -- how many jobs of place p go forward, n places on, to a job below m
 unfoldable pub count_back : List Place → ℕ → ℕ → ℕ → ℕ
 count_back l p n zero = 0
 count_back l p n (suc m) = count_of (backward_by l p n m)
 
-pub at_least_count : (q : Latest) (j : ℕ) → AtLeast q j ↔ (j < count_of q)
-at_least_count (Of i) j = (λ h. omega arith, λ h. omega arith)
-at_least_count Nothing j = (λ h. absurd h, λ h. omega arith)
+pub at_least_count : (q : Option Job) (j : ℕ) → AtLeast q j ↔ (j < count_of q)
+at_least_count (Some i) j = (λ h. omega arith, λ h. omega arith)
+at_least_count None j = (λ h. absurd h, λ h. omega arith)
 
 pub pair : (l : List Place) (p n : ℕ) → Periods l (p + n) → (j m : ℕ) → (forward_by l p n j < m) ↔ (j < count_back l p n m)
 unfolding count_back

@@ -3,11 +3,9 @@ use Prim.Native.Nat.{ℕ, zero, suc, ◌+◌, ◌-◌, ◌*◌, ◌≤◌, ◌<�
 use native.Mathlib.Omega.{arith}
 use Rattle.std.proofs.Math.Path.{◌≡◌, refl, sym}
 use Rattle.std.proofs.Common.{ap}
-use Rattle.std.specs.Prelude.{List, length}
+use Rattle.std.specs.Prelude.{List, length, None, Option, Some}
 use Rattle.task.specs.declared.Place.{Place}
 use Rattle.task.specs.declared.Job.{Job}
-use Rattle.task.specs.declared.Latest.{Latest}
-use Rattle.task.specs.declared.Latest.TheVariants.{Of, Nothing}
 use Rattle.task.specs.Jobs.{read_of, write_of, Limited}
 use Rattle.task.specs.Links.{backward_link}
 use Rattle.task.proofs.LinkLaws.{forward_later, forward_soon, backward_earlier}
@@ -30,7 +28,7 @@ module _ (l : List Place) where
       omega (arith, forward_later (at l (p + n)) (at l (p + suc n)) (w (p + suc n) (omega arith)).period_pos (forward_by l p n j), forward_after p n j (λ i h. w i (omega arith)))
 
   -- A way backward reads no later than it begins.
-  pub backward_before : (p n m : ℕ) → ((i : ℕ) → i ≤ p + n → Limited (at l i)) → (j : Job) → backward_by l p n m ≡ Of j → read_of (at l p) j.0 ≤ read_of (at l (p + n)) m
+  pub backward_before : (p n m : ℕ) → ((i : ℕ) → i ≤ p + n → Limited (at l i)) → (j : Job) → backward_by l p n m ≡ Some j → read_of (at l p) j.0 ≤ read_of (at l (p + n)) m
   unfolding backward_by on_latest
   backward_before p zero m w j e =
       let z : p + 0 ≡ p = omega arith in
@@ -39,10 +37,10 @@ module _ (l : List Place) where
   backward_before p (suc n) m w j e =
       go (backward_link (at l (p + n)) (at l (p + suc n)) m) refl e (λ k. backward_before p n k (λ i h. w i (omega arith)) j)
     where
-      go : (q : Latest) → backward_link (at l (p + n)) (at l (p + suc n)) m ≡ q → on_latest q (backward_by l p n) ≡ Of j
-          → ((k : ℕ) → backward_by l p n k ≡ Of j → read_of (at l p) j.0 ≤ read_of (at l (p + n)) k) → read_of (at l p) j.0 ≤ read_of (at l (p + suc n)) m
-      go Nothing h f ih = absurd (let x : ◌≡◌ {A = ℕ} 0 1 = cc in omega arith)
-      go (Of k) h f ih =
+      go : (q : Option Job) → backward_link (at l (p + n)) (at l (p + suc n)) m ≡ q → on_latest q (backward_by l p n) ≡ Some j
+          → ((k : ℕ) → backward_by l p n k ≡ Some j → read_of (at l p) j.0 ≤ read_of (at l (p + n)) k) → read_of (at l p) j.0 ≤ read_of (at l (p + suc n)) m
+      go None h f ih = absurd (let x : ◌≡◌ {A = ℕ} 0 1 = cc in omega arith)
+      go (Some k) h f ih =
           omega (arith, backward_earlier (at l (p + n)) (at l (p + suc n)) (w (p + n) (omega arith)).period_pos m k h, ih k.0 f)
 
 -- ---- of a chain that passes the checks 8 and 5
@@ -69,7 +67,7 @@ module _ (l : List Place) (ok : Sound l) where
         let f = forward_after l p (q - p) j between in
         rw e at f
 
-    pub backward_fits : (m : ℕ) (j : Job) → backward_by l p (q - p) m ≡ Of j → read_of (at l p) j.0 ≤ read_of (at l q) m
+    pub backward_fits : (m : ℕ) (j : Job) → backward_by l p (q - p) m ≡ Some j → read_of (at l p) j.0 ≤ read_of (at l q) m
     backward_fits m j h =
         let e : p + (q - p) ≡ q = omega arith in
         let f = backward_before l p (q - p) m between j h in

@@ -1,6 +1,6 @@
 -- A gap and a list of tasks, one for each place, that stand for a chain: the checks say the same of both, and of an accepted chain the list holds the tasks at its places.
 -- So a call on a lent list answers what document 01 says of the chain, without a copy of it.
-use Rattle.std.specs.Prelude.{ℕ, ◌*◌, ◌≤◌, ◌<◌, ◌≡◌, refl, take, get_or}
+use Rattle.std.specs.Prelude.{ℕ, ◌*◌, ◌≤◌, ◌<◌, ◌≡◌, refl, take, get_or, Err, Ok, Result}
 use Rattle.std.proofs.Common.{arith, sym, ◌∙◌, ext_get_or, get_or-take, le-leb, le-ltb, lt-ltb}
 use Rattle.std.proofs.Math.Decide.{dec_lt}
 use Rattle.std.proofs.Math.Path.{ap}
@@ -13,8 +13,6 @@ use Rattle.refusal.specs.Refusals.{refusal}
 use Rattle.task.specs.declared.Task.{Task}
 use Rattle.task.specs.declared.Place.{Place}
 use Rattle.chain.specs.declared.Chain.{Chain}
-use Rattle.chain.specs.declared.Verdict.{Verdict}
-use Rattle.chain.specs.declared.Verdict.TheVariants.{Accepted, Refused}
 use Rattle.chain.specs.Chains.{given_of, placed, tasks_of, zero_task}
 use Rattle.ranges.specs.Entries.{entries, entries_length, entries_at}
 use Rattle.chain.specs.Checks.{verdict_for, verdict_of, verdict_in}
@@ -22,15 +20,15 @@ use Rattle.chain.specs.Flat.{flat_chain, given_in, flat_length, flat_front}
 
 pub record StandsFor (g : ℕ) (l : List Task) (c : Chain) : Type 0 where
   pub verdict : verdict_in g l ≡ verdict_of c
-  pub tasks : (h : ℕ) → verdict_of c ≡ Accepted h → placed g l ≡ tasks_of c
-  pub places : (h : ℕ) → verdict_of c ≡ Accepted h → length l ≡ c.places
+  pub tasks : (h : ℕ) → verdict_of c ≡ Ok h → placed g l ≡ tasks_of c
+  pub places : (h : ℕ) → verdict_of c ≡ Ok h → length l ≡ c.places
 
 -- a list of the tasks at the places,
 pub stands_same : (l : List Task) (c : Chain) → l ≡ given_of c → length l ≡ c.places → StandsFor c.gap l c
 stands_same l c e n = record { verdict = ap (λ (x : ℕ). verdict_for x c.gap l) n ∙ ap (verdict_for c.places c.gap) e; tasks = λ h a. ap (placed c.gap) e; places = λ h a. n }
 
 -- 8 where the number of places is not 1 to 12
-pub eight : (n g : ℕ) (l : List Task) → (1 ≤ n → 12 < n) → verdict_for n g l ≡ Refused (refusal 8 0)
+pub eight : (n g : ℕ) (l : List Task) → (1 ≤ n → 12 < n) → verdict_for n g l ≡ Err (refusal 8 0)
 unfolding verdict_for
 eight n g l h = elim (dec_lt n 1) [
   | yes u ↦ rw (lt-leb 1 n u)
@@ -43,7 +41,7 @@ stands_wrong g l c w h =
     let e = eight c.places c.gap (given_of c) h in
     record { verdict = eight (length l) g l w ∙ sym e; tasks = λ k a. absurd (no k (sym e ∙ a)); places = λ k a. absurd (no k (sym e ∙ a)) }
   where
-    no : (k : ℕ) → Refused (refusal 8 0) ≡ Accepted k → ⊥
+    no : (k : ℕ) → Err (refusal 8 0) ≡ Ok k → ⊥
     no k e = let z : ◌≡◌ {A = ℕ} 0 1 = cc in omega arith
 
 -- every list stands for a chain: that of its tasks, the first twelve of them, as many places, and its gap
@@ -81,10 +79,10 @@ module _ (c : Chain) (twelve : length c.tasks ≡ 12) (list : List ℕ) (filled 
 -- ---- what is answered of a list is answered of the chain
 
 -- f is an answer from the tasks and the verdict that looks at no task in a refusal
-pub stands_answer : {A : Type 0} (f : List Place → Verdict → A) → ((r : Refusal) (l m : List Place) → f l (Refused r) ≡ f m (Refused r))
+pub stands_answer : {A : Type 0} (f : List Place → Result ℕ Refusal → A) → ((r : Refusal) (l m : List Place) → f l (Err r) ≡ f m (Err r))
     → (g : ℕ) (l : List Task) (c : Chain) → StandsFor g l c → f (placed g l) (verdict_in g l) ≡ f (tasks_of c) (verdict_of c)
 stands_answer f same g l c st = ap (f (placed g l)) st.verdict ∙ go (verdict_of c) refl
   where
-    go : (v : Verdict) → verdict_of c ≡ v → f (placed g l) v ≡ f (tasks_of c) v
-    go (Accepted h) e = ap (λ (x : List Place). f x (Accepted h)) (st.tasks h e)
-    go (Refused r) e = same r (placed g l) (tasks_of c)
+    go : (v : Result ℕ Refusal) → verdict_of c ≡ v → f (placed g l) v ≡ f (tasks_of c) v
+    go (Ok h) e = ap (λ (x : List Place). f x (Ok h)) (st.tasks h e)
+    go (Err r) e = same r (placed g l) (tasks_of c)

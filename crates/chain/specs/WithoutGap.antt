@@ -2,17 +2,15 @@
 -- `forward_without`, `backward_without` and `verdict_without` say that with gap 0 the definitions are these. What is made of them in timing is in timing/specs/WithoutGap.
 use Prim.Native.Nat.{ℕ, zero, suc, ◌+◌, ◌-◌, ◌*◌, ◌/◌, ◌<◌}
 use Rattle.std.proofs.Common.{arith, ap}
-use Rattle.std.specs.Prelude.{◌≡◌, cond, ◌&&◌, List, [], ◌∷◌, leb, length, get_or}
+use Rattle.std.specs.Prelude.{◌≡◌, cond, ◌&&◌, List, [], ◌∷◌, leb, length, get_or, Err, None, Ok, Option, Result, Some}
 use Rattle.std.proofs.Math.Path.{refl}
+use Rattle.task.specs.declared.Job.{Job}
+use Rattle.refusal.specs.declared.Refusal.{Refusal}
 use Rattle.refusal.specs.Refusals.{refusal}
 use Rattle.task.specs.declared.Task.{Task}
-use Rattle.task.specs.declared.Latest.{Latest}
-use Rattle.task.specs.declared.Latest.TheVariants.{Of, Nothing}
 use Rattle.task.specs.Jobs.{place_of}
 use Rattle.task.specs.Links.{earliest_from, latest_over, forward_link, backward_link}
 use Rattle.euclid.specs.Divisor.{lcm_of}
-use Rattle.chain.specs.declared.Verdict.{Verdict}
-use Rattle.chain.specs.declared.Verdict.TheVariants.{Accepted, Refused}
 use Rattle.chain.specs.Chains.{placed, zero_task, forward_by, on_latest, backward_by}
 use Rattle.chain.specs.Placed.{at_placed}
 use Rattle.chain.specs.Hyperperiod.{hyper_from}
@@ -34,15 +32,15 @@ write_plain a j = a.phase + j * a.period + a.duration
 abbrev pub earliest_plain : Task → ℕ → ℕ
 earliest_plain b w = (w - b.phase + (b.period - 1)) / b.period
 
-abbrev pub latest_plain : Task → ℕ → Latest
-latest_plain a z = cond (leb (a.phase + a.duration) z) (Of (record { 0 = (z - (a.phase + a.duration)) / a.period })) Nothing
+abbrev pub latest_plain : Task → ℕ → Option Job
+latest_plain a z = cond (leb (a.phase + a.duration) z) (Some (record { 0 = (z - (a.phase + a.duration)) / a.period })) None
 
 -- The next place's earliest job that reads at or after the write of job j,
 abbrev pub forward_plain : Task → Task → ℕ → ℕ
 forward_plain a b j = earliest_plain b (write_plain a j)
 
 -- and the previous place's latest job that writes at or before the read of job k.
-abbrev pub backward_plain : Task → Task → ℕ → Latest
+abbrev pub backward_plain : Task → Task → ℕ → Option Job
 backward_plain a b k = latest_plain a (read_plain b k)
 
 -- The ways, a link at a time.
@@ -50,8 +48,8 @@ unfoldable pub forward_way : List Task → ℕ → ℕ → ℕ → ℕ
 forward_way l p zero j = j
 forward_way l p (suc n) j = forward_plain (task_at l (p + n)) (task_at l (p + suc n)) (forward_way l p n j)
 
-unfoldable pub backward_way : List Task → ℕ → ℕ → ℕ → Latest
-backward_way l p zero m = Of (record { 0 = m })
+unfoldable pub backward_way : List Task → ℕ → ℕ → ℕ → Option Job
+backward_way l p zero m = Some (record { 0 = m })
 backward_way l p (suc n) m = on_latest (backward_plain (task_at l (p + n)) (task_at l (p + suc n)) m) (backward_way l p n)
 
 -- The least common multiple of h and the periods, and the checks 8, 5 and 7.
@@ -59,11 +57,11 @@ unfoldable pub hyper_plain : ℕ → List Task → ℕ
 hyper_plain h [] = h
 hyper_plain h (a ∷ l) = hyper_plain (lcm_of h a.period) l
 
-abbrev pub verdict_plain : ℕ → List Task → Verdict
+abbrev pub verdict_plain : ℕ → List Task → Result ℕ Refusal
 verdict_plain n l =
     cond (leb 1 n && leb n 12)
-    (after_fault (first_fault 1 l) (cond (leb (hyper_plain 1 l) 60000000) (Accepted (hyper_plain 1 l)) (Refused (refusal 7 0))))
-    (Refused (refusal 8 0))
+    (after_fault (first_fault 1 l) (cond (leb (hyper_plain 1 l) 60000000) (Ok (hyper_plain 1 l)) (Err (refusal 7 0))))
+    (Err (refusal 8 0))
 
 -- ---- they are those of gap 0
 
@@ -83,7 +81,7 @@ link_without a b j = ap (earliest_plain b) (no_more (write_plain a j))
 link_back_without : (a b : Task) (k : ℕ) → backward_link (place_of 0 a) (place_of 0 b) k ≡ backward_plain a b k
 unfolding backward_link latest_over
 link_back_without a b k =
-    ap (λ (d : ℕ). cond (leb (a.phase + d) (read_plain b k)) (Of (record { 0 = (read_plain b k - (a.phase + d)) / a.period })) Nothing) (no_more a.duration)
+    ap (λ (d : ℕ). cond (leb (a.phase + d) (read_plain b k)) (Some (record { 0 = (read_plain b k - (a.phase + d)) / a.period })) None) (no_more a.duration)
 
 module _ (l : List Task) where
   pub forward_without : (p n j : ℕ) → p + n < length l → forward_by (placed 0 l) p n j ≡ forward_way l p n j
@@ -99,9 +97,9 @@ module _ (l : List Task) where
       rw (at_placed 0 l (p + n) (omega arith), at_placed 0 l (p + suc n) h, link_back_without (task_at l (p + n)) (task_at l (p + suc n)) m)
       (go (backward_plain (task_at l (p + n)) (task_at l (p + suc n)) m) (λ k. backward_without p n k (omega arith)))
     where
-      go : (q : Latest) → ((k : ℕ) → backward_by (placed 0 l) p n k ≡ backward_way l p n k) → on_latest q (backward_by (placed 0 l) p n) ≡ on_latest q (backward_way l p n)
-      go Nothing ih = refl
-      go (Of k) ih = ih k.0
+      go : (q : Option Job) → ((k : ℕ) → backward_by (placed 0 l) p n k ≡ backward_way l p n k) → on_latest q (backward_by (placed 0 l) p n) ≡ on_latest q (backward_way l p n)
+      go None ih = refl
+      go (Some k) ih = ih k.0
 
   pub verdict_without : (n : ℕ) → verdict_for n 0 l ≡ verdict_plain n l
   unfolding verdict_for after_gap hyper_verdict

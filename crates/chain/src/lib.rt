@@ -7,26 +7,19 @@ ghost use Rattle.std.specs.Prelude.{◌≡◌, ◌+◌, ◌*◌, ◌-◌, ◌≤
 ghost use Rattle.task.specs.Jobs.{read_of, write_of};
 ghost use Rattle.chain.specs.Chains.{zero_task, at, forward_by, backward_by, job_of};
 ghost use Rattle.chain.specs.Hyperperiod.{hyper_of, UpToLimit};
-ghost use Rattle.chain.specs.Checks.{first_fault, hyper_verdict, verdict_of, verdict_in, Sound};
+ghost use Rattle.chain.specs.Checks.{found, first_fault, hyper_verdict, verdict_of, verdict_in, Sound};
 ghost use Rattle.chain.specs.Flat.{flat_chain, flat_length, given_in, tasks_in};
 
-use refusal::Refusal;
-use task::{Job, Latest, Place, Task};
+use refusal::{Reason, Refusal};
+use task::{Job, Place, Task};
 
 // Document 01: one chain of 1 to 12 places; a task may fill several. Entries of `tasks` from `places` on are no part of the chain.
 // Order 5 of document 02: the gap of every link, 0 to 1,000 ticks.
-#[derive(Clone, Copy)]
+#[derive(Clone, Copy, PartialEq, Eq, Default, Debug)]
 pub struct Chain {
     pub tasks: [Task; 12],
     pub places: usize,
     pub gap: u64,
-}
-
-// What the checks 8, 5 and 7 say of a chain: accepted, with its hyperperiod, or refused.
-#[derive(Clone, Copy)]
-pub enum Verdict {
-    Accepted(u64),
-    Refused(Refusal),
 }
 
 // ---- the tasks as a flat list
@@ -36,13 +29,10 @@ pub fn flat(c: Chain) -> [u64; 36]
     ensures { result ≡ flat_chain c.tasks }
 {
     let mut list = [0u64; 36];
-    let mut i: usize = 0;
-    while i < 12 {
-        let a = c.tasks[i];
+    for (i, a) in c.tasks.iter().enumerate() {
         list[3 * i] = a.period;
         list[3 * i + 1] = a.duration;
         list[3 * i + 2] = a.phase;
-        i += 1;
     }
     list
 }
@@ -51,10 +41,7 @@ pub fn flat(c: Chain) -> [u64; 36]
 pub fn flat_length(places: usize) -> usize
     ensures { result ≡ flat_length places }
 {
-    if 12 < places {
-        return 0;
-    }
-    3 * places
+    if 12 < places { 0 } else { 3 * places }
 }
 
 // Task i of a flat list.
@@ -86,22 +73,17 @@ pub fn task_at(tasks: &[u64], gap: u64, i: usize) -> Place
 
 // ---- the checks
 
-// The lowest position whose task has a value outside its limits, or 0.
-fn first_fault(tasks: &[u64]) -> usize
+// The lowest position whose task has a value outside its limits, counted from 1.
+fn first_fault(tasks: &[u64]) -> Option<usize>
     requires { length (given_in tasks.now) ≤ 12 }
-    ensures { result ≡ first_fault 1 (given_in tasks.now) }
+    ensures { result ≡ found (first_fault 1 (given_in tasks.now)) }
 {
-    let n = tasks.len() / 3;
-    let mut i: usize = 0;
-    while i < n {
-        let a = given_at(tasks, i);
-        if a.within_limits() {
-            i += 1;
-        } else {
-            return i + 1;
+    for i in 0..tasks.len() / 3 {
+        if !given_at(tasks, i).within_limits() {
+            return Some(i + 1);
         }
     }
-    0
+    None
 }
 
 // The hyperperiod of a list that passed 8 and 5, for the crates above; where it is above the limit, some number above the limit: the multiple only grows, so the first value
@@ -110,70 +92,51 @@ pub fn hyperperiod_on(tasks: &[u64], gap: u64) -> u64
     requires { Sound (tasks_in gap tasks.now) }
     ensures { UpToLimit (hyper_of (tasks_in gap tasks.now)) result }
 {
-    let n = tasks.len() / 3;
-    let mut h: u64 = 1;
-    let mut i: usize = 0;
-    while i < n {
+    let mut h = 1;
+    for i in 0..tasks.len() / 3 {
         let a = task_at(tasks, gap, i);
         h = euclid::lcm(h, a.period);
         if 60000000 < h {
             return h;
         }
-        i += 1;
     }
     h
 }
 
 // Accepted with the hyperperiod, or 7.
-fn hyper_verdict(tasks: &[u64], gap: u64) -> Verdict
+fn hyper_verdict(tasks: &[u64], gap: u64) -> Result<u64, Refusal>
     requires { Sound (tasks_in gap tasks.now) }
     ensures { result ≡ hyper_verdict (tasks_in gap tasks.now) }
 {
     let h = hyperperiod_on(tasks, gap);
     if h <= 60000000 {
-        return Verdict::Accepted(h);
+        return Ok(h);
     }
-    Verdict::Refused(Refusal {
-        number: 7,
-        place: 0,
-    })
+    Err(Refusal::HYPERPERIOD_TOO_LONG)
 }
 
 // The checks of a flat list of tasks, one for each place, and of the gap.
-pub fn check_on(tasks: &[u64], gap: u64) -> Verdict
+pub fn check_on(tasks: &[u64], gap: u64) -> Result<u64, Refusal>
     ensures { result ≡ verdict_in gap (given_in tasks.now) }
 {
     let n = tasks.len() / 3;
-    if n < 1 {
-        return Verdict::Refused(Refusal {
-            number: 8,
-            place: 0,
-        });
+    if !(1..=12).contains(&n) {
+        return Err(Refusal::PLACES_OUTSIDE_LIMITS);
     }
-    if 12 < n {
-        return Verdict::Refused(Refusal {
-            number: 8,
-            place: 0,
-        });
-    }
-    let p = first_fault(tasks);
-    if p != 0 {
-        return Verdict::Refused(Refusal {
-            number: 5,
+    if let Some(p) = first_fault(tasks) {
+        return Err(Refusal {
+            number: Reason::TaskOutsideLimits as u64,
             place: p,
         });
     }
     if 1000 < gap {
-        return Verdict::Refused(Refusal {
-            number: 5,
-            place: 0,
-        });
+        return Err(Refusal::TASK_OUTSIDE_LIMITS);
     }
     hyper_verdict(tasks, gap)
 }
 
 // The checks of a chain to be analysed, in the documents' order: 8; 5, of the gap after the tasks; 7.
-pub fn check(c: Chain) -> Verdict
+pub fn check(c: Chain) -> Result<u64, Refusal>
     ensures { result ≡ verdict_of c }
 {
     let tasks = flat(c);
@@ -189,11 +152,9 @@ pub fn forward_on(tasks: &[u64], gap: u64, p: usize, q: usize, j: Job) -> Job
     ensures { result.0 ≡ forward_by (tasks_in gap tasks.now) p (q - p) j.0 }
 {
     let mut k = j;
-    let mut i = p;
     let mut a = task_at(tasks, gap, p);
-    while i < q {
-        i += 1;
-        let b = task_at(tasks, gap, i);
+    for i in p..q {
+        let b = task_at(tasks, gap, i + 1);
         k = a.forward_to(b, k);
         a = b;
     }
@@ -201,36 +162,34 @@ pub fn forward_on(tasks: &[u64], gap: u64, p: usize, q: usize, j: Job) -> Job
 }
 
 // From job m at place q backward to place p; there may be none.
-pub fn backward_on(tasks: &[u64], gap: u64, p: usize, q: usize, m: Job) -> Latest
+pub fn backward_on(tasks: &[u64], gap: u64, p: usize, q: usize, m: Job) -> Option<Job>
     requires { (Sound (tasks_in gap tasks.now)) × (p ≤ q) × (q < length (tasks_in gap tasks.now)) × (read_of (at (tasks_in gap tasks.now) q) m.0 ≤ 1500000000000) }
     ensures { result ≡ backward_by (tasks_in gap tasks.now) p (q - p) m.0 }
 {
     let mut k = m;
-    let mut i = q;
     let mut b = task_at(tasks, gap, q);
-    while p < i {
-        i -= 1;
+    for i in (p..q).rev() {
         let a = task_at(tasks, gap, i);
         let found = b.backward_to(a, k);
         match found {
-            Latest::Of(j) => {
+            Some(j) => {
                 k = j;
                 b = a;
             }
-            Latest::Nothing => {
-                return Latest::Nothing;
+            None => {
+                return None;
             }
         }
     }
-    Latest::Of(k)
+    Some(k)
 }
 
 // The job found, and 0 where there is none.
-pub fn job_of(found: Latest) -> Job
+pub fn job_of(found: Option<Job>) -> Job
     ensures { result.0 ≡ job_of found }
 {
     match found {
-        Latest::Of(j) => j,
-        Latest::Nothing => Job(0),
+        Some(j) => j,
+        None => Job(0),
     }
 }

@@ -9,6 +9,7 @@
 
 ghost use Rattle.std.specs.Prelude.{◌≤◌, length};
 
+use failure::tell;
 use std::env::{Env, FillError};
 use std::io;
 use std::io::Write;
@@ -17,34 +18,14 @@ use std::io::Write;
 fn word<R: Env>(rt: &R, i: usize, bytes: &mut [u8]) -> usize
     ensures { result ≤ length bytes.new }
 {
-    match rt.arg(i, bytes) {
-        Ok(n) => n,
-        Err(_) => 0,
-    }
+    rt.arg(i, bytes).unwrap_or(0)
 }
 
 // How many words there are, the program's own name among them.
 fn word_count<R: Env>(rt: &R) -> usize {
-    for i in 0..usize::MAX {
-        if let Err(FillError::NotPresent) = rt.arg(i, &mut []) {
-            return i;
-        }
-    }
-    usize::MAX
-}
-
-// The system's reason, without the error's number that std adds.
-fn reason(text: &str) -> &str {
-    match text.split_once(" (os error ") {
-        Some((front, _)) => front,
-        None => text,
-    }
-}
-
-// Tells what failed, with the system's reason.
-fn tell<R: Eprint + Alloc>(rt: &R, what: &str, error: io::Error) -> io::Result<()> {
-    let text = format!(in rt.alloc(); "{error}")?;
-    eprintln!(rt; "{what}: {}", reason(text.as_str()))
+    (0..usize::MAX)
+        .take_while(|i| !matches!(rt.arg(*i, &mut []), Err(FillError::NotPresent)))
+        .count()
 }
 
 fn main(rt: HostRuntime) -> io::Result<()> {
@@ -52,15 +33,13 @@ fn main(rt: HostRuntime) -> io::Result<()> {
     let mut places = [0u8; 20];
     let m = word(&rt, 1, &mut seed);
     let n = word(&rt, 2, &mut places);
-    let a = load_file::answer_to(word_count(&rt), &seed[..m], &places[..n]);
-    let bytes = a.bytes;
-    let long = a.long;
-    if a.made {
-        return match io::writer(&rt).write_all(&bytes[..long]) {
-            Ok(()) => Ok(()),
-            Err(e) => tell(&rt, "chainload: writing the schedule file", e),
-        };
+    match load_file::answer_to(word_count(&rt), &seed[..m], &places[..n]) {
+        Ok(file) => io::writer(&rt)
+            .write_all(&file.bytes[..file.long])
+            .or_else(|e| tell(&rt, "chainload: writing the schedule file", e)),
+        Err(line) => {
+            let _ = rt.stderr().write_all(&line.bytes[..line.long]);
+            Ok(())
+        }
     }
-    let _ = rt.stderr().write_all(&bytes[..long]);
-    Ok(())
 }

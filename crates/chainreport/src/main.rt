@@ -6,71 +6,35 @@
 // Not proved, since no contract can say it: that the system's read gives the bytes of standard input, and that its write puts these bytes out.
 #![tactic(auto)]
 
-ghost use Rattle.io.specs.Counts.{IsPrefixLen};
+ghost use Rattle.std.specs.Prelude.{◌≤◌, length, IfOk};
 
+use failure::tell;
 use std::io;
 use std::io::{Read, Write};
 
-// How many bytes came, and why reading stopped before the end, if it did.
-#[derive(Drop)]
-struct Input {
-    bytes: usize,
-    failed: Option<io::Error>,
-}
-
-// Reads until the bytes lent are full, the input ends or a read fails.
-fn read_input<R: Read>(reader: &mut R, input: &mut [u8]) -> Input
-    ensures { IsPrefixLen result.bytes input.new }
+// Reads until the bytes lent are full or the input ends: how many came, or the error of the read that failed.
+fn read_input<R: Read>(reader: &mut R, input: &mut [u8]) -> io::Result<usize>
+    ensures { IfOk result (λ bytes. bytes ≤ length input.new) }
 {
     let mut done: usize = 0;
     while done < input.len() {
-        match reader.read(&mut input[done..]) {
-            Ok(0) => {
-                return Input {
-                    bytes: done,
-                    failed: None,
-                };
-            }
-            Ok(n) => done += n,
-            Err(e) => {
-                return Input {
-                    bytes: done,
-                    failed: Some(e),
-                };
-            }
+        match reader.read(&mut input[done..])? {
+            0 => break,
+            n => done += n,
         }
     }
-    Input {
-        bytes: done,
-        failed: None,
-    }
-}
-
-// The system's reason, without the error's number that std adds.
-fn reason(text: &str) -> &str {
-    match text.split_once(" (os error ") {
-        Some((front, _)) => front,
-        None => text,
-    }
-}
-
-// Tells what failed, with the system's reason.
-fn tell<R: Eprint + Alloc>(rt: &R, what: &str, error: io::Error) -> io::Result<()> {
-    let text = format!(in rt.alloc(); "{error}")?;
-    eprintln!(rt; "{what}: {}", reason(text.as_str()))
+    Ok(done)
 }
 
 fn main(rt: HostRuntime) -> io::Result<()> {
     let mut input = [0u8; 4096];
-    let read = read_input(&mut rt.stdin(), &mut input);
-    if let Some(e) = read.failed {
-        return tell(&rt, "chainreport: reading standard input", e);
-    }
-    let n = read.bytes;
+    let n = match read_input(&mut rt.stdin(), &mut input) {
+        Ok(n) => n,
+        Err(e) => return tell(&rt, "chainreport: reading standard input", e),
+    };
     let mut out = [0u8; 92000];
     let long = report::report(&input[..n], &mut out);
-    match io::writer(&rt).write_all(&out[..long]) {
-        Ok(()) => Ok(()),
-        Err(e) => tell(&rt, "chainreport: writing the report", e),
-    }
+    io::writer(&rt)
+        .write_all(&out[..long])
+        .or_else(|e| tell(&rt, "chainreport: writing the report", e))
 }

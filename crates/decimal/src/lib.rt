@@ -4,42 +4,21 @@
 ghost use Rattle.std.specs.Prelude.{◌≡◌};
 ghost use Rattle.decimal.specs.Numbers.{number_of};
 
-// The number that a word spells, or that it spells none of 64 bits.
-#[derive(Clone, Copy)]
-pub enum Number {
-    Of(u64),
-    Wrong,
-}
-
+// The number that a word spells, or none where it spells none of 64 bits.
 // Digit by digit: the first byte that is no digit, or that makes the number too large, ends it.
-pub fn number_of(word: &[u8]) -> Number
+#[tactic(auto, using(crate::proofs::Digits::digit_on, crate::proofs::Digits::no_digit, crate::proofs::Digits::above_64, crate::proofs::Digits::at_end))]
+pub fn number_of(word: &[u8]) -> Option<u64>
     ensures { result ≡ number_of word.now }
 {
-    if word.len() == 0 {
-        return Number::Wrong;
-    }
-    if 20 < word.len() {
-        return Number::Wrong;
+    if word.is_empty() || 20 < word.len() {
+        return None;
     }
     let mut n: u64 = 0;
-    let mut i: usize = 0;
-    while i < word.len() {
-        let b = word[i];
-        if b < 48 {
-            return Number::Wrong;
+    for b in word {
+        if !b.is_ascii_digit() {
+            return None;
         }
-        if 57 < b {
-            return Number::Wrong;
-        }
-        if 1844674407370955161 < n {
-            return Number::Wrong;
-        }
-        let d = (b - 48) as u64;
-        if 18446744073709551615 - n * 10 < d {
-            return Number::Wrong;
-        }
-        n = n * 10 + d;
-        i += 1;
+        n = n.checked_mul(10)?.checked_add(u64::from(*b - b'0'))?;
     }
-    Number::Of(n)
+    Some(n)
 }

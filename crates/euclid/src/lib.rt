@@ -5,6 +5,7 @@ ghost use Rattle.std.specs.Prelude.{◌≡◌, ◌*◌, ◌≤◌, ◌<◌};
 ghost use Rattle.euclid.specs.Divisor.{gcd_of, lcm_of};
 
 // The second number falls at each call.
+#[tactic(auto, using(crate::proofs::Steps::gcd_zero, crate::proofs::Steps::gcd_step))]
 pub fn gcd(a: u64, b: u64) -> u64
     ensures { result ≡ gcd_of a b }
 {
@@ -12,6 +13,7 @@ pub fn gcd(a: u64, b: u64) -> u64
 }
 
 // The least common multiple of two numbers whose product fits, for the crates above.
+#[tactic(auto, using(crate::proofs::LeastMultiple::gcd_pos), unfolding(crate::specs::Divisor::lcm_of))]
 pub fn lcm(a: u64, b: u64) -> u64
     requires { (1 ≤ a) × (a * b ≤ 1000000000000000000) }
     ensures { result ≡ lcm_of a b }

@@ -13,9 +13,8 @@ use Rattle.table.specs.Reading.{last_at, gives, delay_at}
 use Rattle.table.specs.Segments.{Formed, delay_again}
 use Rattle.table.specs.BothWays.{well_formed_laws, well_formed_iff}
 use Rattle.table.specs.EveryTable.{first_start_holds}
-use Rattle.figures.specs.declared.Mean.TheVariants.{Doubled}
 use Rattle.figures.specs.Ticks.{total}
-use Rattle.figures.specs.Figures.{doubled_area, mean_of}
+use Rattle.figures.specs.Figures.{doubled_area, mean_of, mean_by}
 use Rattle.figures.specs.Folding.{total_same, total_round}
 use Rattle.figures.proofs.Area.{some_delay, area_ticks}
 use Rattle.figures.specs.Integral.{Timed, Falls, Integral, tick_area, falls_integral}
@@ -95,7 +94,7 @@ module _ (H : ℕ) (l : List Anchor) (formed : Formed H l) where
 -- The mean of every well-formed table, said of its two lists, g and H: the call answers twice the integral of its delay over any hyperperiod, and twice H.
 pub record MeanOfAll (s v : List ℕ) (g H : ℕ) : Type 0 where
   pub doubled : ℕ
-  pub answered : mean_of s v g H ≡ Doubled doubled (2 * H)
+  pub answered : mean_of s v g H ≡ mean_by doubled (2 * H)
   pub integral : (t : ℕ) → get_or s 0 0 ≤ t → Integral (delay_timed H (anchors s v g)) (delay_at H (anchors s v g)) t H doubled
 
 pub mean_of_all : (s v : List ℕ) (g H : ℕ) → WellFormed s v g H → MeanOfAll s v g H

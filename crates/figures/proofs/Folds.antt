@@ -1,9 +1,8 @@
 -- What each turn and the end of a loop over the anchors of a well-formed table shows.
 use mathlib.Core.Path.{◌≡◌, sym, ap, ◌∙◌}
 use mathlib.Core.List.{List}
-use Prim.Native.Nat.{ℕ, ◌+◌, ◌-◌, ◌*◌, ◌≤◌, ◌<◌, max}
+use Prim.Native.Nat.{ℕ, ◌+◌, ◌-◌, ◌*◌, ◌≤◌, ◌<◌}
 use native.Mathlib.Omega.{arith}
-use borrow.Author.Tests.{le-leb, lt-leb}
 use lib.ListN.{get_or, drop}
 use Rattle.figures.specs.declared.Gathered.{Gathered}
 use Rattle.figures.specs.declared.Scan.{Scan}
@@ -13,7 +12,6 @@ use Rattle.table.specs.Places.{anchors_first, first_at}
 use Rattle.figures.specs.ByAnchors.{segments, segments_at, segments_end}
 use Rattle.table.specs.BothWays.{well_formed_laws}
 use Rattle.table.specs.Delays.{greatest_small}
-use Rattle.figures.specs.Ticks.{scan}
 use Rattle.figures.specs.Exceeding.{stretch, round_bounded, best_grows}
 use Rattle.figures.specs.Gathering.{gathered, with_anchor, Gathers, first_latency, gathering}
 use Rattle.figures.proofs.Gathering.{gathers_anchors, area_small}
@@ -56,12 +54,3 @@ module _ (s v : List ℕ) (g H : ℕ) (w : WellFormed s v g H) where
 
   pub gather_end : (m : Gathered) → m ≡ Whole → Gathers H (anchors s v g) m
   gather_end m e = rw (e, ← whole) (gathers_anchors H (anchors s v g) (well_formed_laws s v g H w))
-
--- the two returns of `with_stretch`
-pub stretch_full : (B : ℕ) (z : Scan) (d v a r : ℕ) → a ≡ v - B → d ≤ a → r ≡ max z.best (z.run + d) → scan (z.run + d) r ≡ stretch B z d v
-unfolding stretch
-stretch_full B z d v a r e h k = rw (k, le-leb d (v - B) (omega arith))
-
-pub stretch_part : (B : ℕ) (z : Scan) (d v a r : ℕ) → a ≡ v - B → a < d → r ≡ max z.best (z.run + a) → scan 0 r ≡ stretch B z d v
-unfolding stretch
-stretch_part B z d v a r e h k = rw (k, e, lt-leb d (v - B) (omega arith))

@@ -5,7 +5,6 @@ use Rattle.figures.specs.declared.Gathered.{Gathered}
 use Rattle.table.specs.Anchors.{Anchor, first_start, distance}
 use Rattle.table.specs.WellFormed.{latency_limit}
 use Rattle.table.specs.Figures.{greatest, low_to, low}
-use Rattle.figures.specs.Figures.{doubled_area}
 use Rattle.table.specs.Segments.{Formed}
 use Rattle.figures.specs.ByAnchors.{segments}
 use Rattle.figures.specs.Area.{add_area}

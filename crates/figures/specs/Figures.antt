@@ -1,17 +1,12 @@
 -- Document 01, "Figures of a table", and order 3 of document 02: mean and longest exceedance of a list of anchors, and what each call answers.
 -- 14 is the one refusal. Greatest latency and low are in the table's own Figures.
-use Rattle.std.specs.Prelude.{cond, List, ℕ, ◌-◌, ◌*◌}
-use Rattle.refusal.specs.Refusals.{refusal}
-use Rattle.figures.specs.declared.Greatest.{Greatest}
-use Rattle.figures.specs.declared.Greatest.TheVariants as greatest-answer
-use Rattle.figures.specs.declared.Low.{Low}
-use Rattle.figures.specs.declared.Low.TheVariants as low-answer
-use Rattle.figures.specs.declared.Mean.{Mean}
-use Rattle.figures.specs.declared.Mean.TheVariants as mean-answer
+use Rattle.std.specs.Prelude.{cond, List, ℕ, ◌-◌, ◌*◌, Err, Ok, Result}
+use Rattle.figures.specs.declared.Exceedance.TheVariants.{Endless, Run}
+use Rattle.refusal.specs.declared.Refusal.{Refusal}
 use Rattle.figures.specs.declared.Throughput.{Throughput}
-use Rattle.figures.specs.declared.Throughput.TheVariants as throughput-answer
+use Rattle.figures.specs.declared.Mean.{Mean}
 use Rattle.figures.specs.declared.Exceedance.{Exceedance}
-use Rattle.figures.specs.declared.Exceedance.TheVariants as exceedance-answer
+use Rattle.refusal.specs.Refusals.{refusal}
 use Rattle.table.specs.Anchors.{Anchor, anchors, first_start}
 use Rattle.table.specs.WellFormed.{well_formed}
 use Rattle.table.specs.Reading.{delay_at}
@@ -33,35 +28,42 @@ doubled_area H l = 2 * delay_sum H l - H
 unfoldable pub exceedance : ℕ → ℕ → List Anchor → Exceedance
 exceedance B H l =
     cond (every_above B (delay_at H l) (first_start l) H)
-    exceedance-answer.Endless
-    (exceedance-answer.Run (longest_run B (delay_at H l) (first_start l) (2 * H)))
+    Endless
+    (Run (longest_run B (delay_at H l) (first_start l) (2 * H)))
+
+-- A mean and a throughput as the calls answer them: two numbers each.
+abbrev pub mean_by : ℕ → ℕ → Result Mean Refusal
+mean_by area ticks = Ok (record { doubled_area = area; doubled_ticks = ticks })
+
+abbrev pub anchors_in : ℕ → ℕ → Result Throughput Refusal
+anchors_in count ticks = Ok (record { anchors = count; ticks = ticks })
 
 -- What the calls answer.
-unfoldable pub greatest_of : List ℕ → List ℕ → ℕ → ℕ → Greatest
+unfoldable pub greatest_of : List ℕ → List ℕ → ℕ → ℕ → Result ℕ Refusal
 greatest_of starts latencies g H =
     cond (well_formed starts latencies g H)
-    (greatest-answer.Latency (greatest (anchors starts latencies g)))
-    (greatest-answer.Refused (refusal 14 0))
+    (Ok (greatest (anchors starts latencies g)))
+    (Err (refusal 14 0))
 
-unfoldable pub low_of : List ℕ → List ℕ → ℕ → ℕ → Low
+unfoldable pub low_of : List ℕ → List ℕ → ℕ → ℕ → Result ℕ Refusal
 low_of starts latencies g H =
     cond (well_formed starts latencies g H)
-    (low-answer.Limit (low H (anchors starts latencies g)))
-    (low-answer.Refused (refusal 14 0))
+    (Ok (low H (anchors starts latencies g)))
+    (Err (refusal 14 0))
 
-unfoldable pub mean_of : List ℕ → List ℕ → ℕ → ℕ → Mean
+unfoldable pub mean_of : List ℕ → List ℕ → ℕ → ℕ → Result Mean Refusal
 mean_of starts latencies g H =
     cond (well_formed starts latencies g H)
-    (mean-answer.Doubled (doubled_area H (anchors starts latencies g)) (2 * H))
-    (mean-answer.Refused (refusal 14 0))
+    (mean_by (doubled_area H (anchors starts latencies g)) (2 * H))
+    (Err (refusal 14 0))
 
 -- Throughput: g anchors in H ticks.
-unfoldable pub throughput_of : List ℕ → List ℕ → ℕ → ℕ → Throughput
+unfoldable pub throughput_of : List ℕ → List ℕ → ℕ → ℕ → Result Throughput Refusal
 throughput_of starts latencies g H =
-    cond (well_formed starts latencies g H) (throughput-answer.Anchors g H) (throughput-answer.Refused (refusal 14 0))
+    cond (well_formed starts latencies g H) (anchors_in g H) (Err (refusal 14 0))
 
-unfoldable pub exceedance_of : List ℕ → List ℕ → ℕ → ℕ → ℕ → Exceedance
+unfoldable pub exceedance_of : List ℕ → List ℕ → ℕ → ℕ → ℕ → Result Exceedance Refusal
 exceedance_of starts latencies g H B =
     cond (well_formed starts latencies g H)
-    (exceedance B H (anchors starts latencies g))
-    (exceedance-answer.Refused (refusal 14 0))
+    (Ok (exceedance B H (anchors starts latencies g)))
+    (Err (refusal 14 0))

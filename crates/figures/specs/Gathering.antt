@@ -1,12 +1,9 @@
 -- Greatest, low and twice the area under the delay, gathered in one pass over the anchors.
-use Rattle.std.specs.Prelude.{◌≡◌, refl, List, [], ◌∷◌, ℕ, ◌+◌, ◌-◌, ◌*◌, ◌≤◌, min, max}
-use Rattle.std.proofs.Common.{sym, ap, ◌∙◌, arith}
+use Rattle.std.specs.Prelude.{◌≡◌, List, [], ◌∷◌, ℕ, ◌-◌, min, max}
 use Rattle.figures.specs.declared.Gathered.{Gathered}
-use Rattle.table.specs.Anchors.{Anchor, first_start, distance}
-use Rattle.table.specs.WellFormed.{latency_limit}
-use Rattle.table.specs.Figures.{greatest, low_to, low}
+use Rattle.table.specs.Anchors.{Anchor}
+use Rattle.table.specs.Figures.{greatest, low}
 use Rattle.figures.specs.Figures.{doubled_area}
-use Rattle.table.specs.Segments.{Formed}
 use Rattle.figures.specs.ByAnchors.{segments}
 use Rattle.figures.specs.Area.{add_area}
 

@@ -1,4 +1,5 @@
 -- How far reading has come: what the loop has stored is what the definition has read, and the file reads as the rest of it does from here.
+use Rattle.std.specs.Prelude.{Err, Ok, Result}
 use Prim.Native.Nat.{ℕ, zero, suc, ◌+◌, ◌-◌, ◌*◌, ◌≤◌, ◌<◌}
 use native.Mathlib.Omega.{arith}
 use mathlib.Core.Path.{◌≡◌, refl, sym, ap, ◌∙◌}
@@ -7,14 +8,14 @@ use mathlib.Core.List.{List, [], ◌∷◌, ◌++◌, map}
 use lib.ListN.{length, set, take, drop, replicate, length-map, length-append, length-drop, drop_of_length-le}
 use lib.Seq.{drop-drop}
 use borrow.Author.Tests.{lt-ltb, le-ltb}
-use Rattle.refusal.specs.Refusals.{none}
+use Rattle.file_reader.specs.declared.Record.TheVariants.{Chain, End, Gap, Task}
+use Rattle.file_reader.specs.declared.Record.{Record}
+use Rattle.refusal.specs.declared.Refusal.{Refusal}
 use Rattle.schedule.specs.declared.NumberedTask.{NumberedTask}
 use Rattle.schedule.specs.declared.Route.{Route}
+use Rattle.schedule.specs.declared.Schedule.{Schedule}
 use Rattle.schedule.specs.Schedules.{number_of, padded, zero_numbered, empty_route, route_of}
 use Rattle.schedule.specs.Padding.{padded_none, padded_set, take_padded, length_padded}
-use Rattle.file_reader.specs.declared.Record.{Record}
-use Rattle.file_reader.specs.declared.Record.TheVariants.{Task, Chain, Gap, End, Fault}
-use Rattle.file_reader.specs.declared.FileRead.{FileRead}
 use Rattle.file_reader.specs.Reading.{chain_field, record_of, refused_file, accepted_file, after_record, read_from, read_file}
 use Rattle.file_reader.proofs.Records.{tells}
 
@@ -65,7 +66,7 @@ module _ (bytes : List ℕ) (tasks : List NumberedTask) (numbers : List ℕ) (ro
       ∙ take_padded 0 32 (map number_of g.read) (omega (arith, g.few))
 
   -- a record that was judged to be r
-  module _ (r : Record) (judged : r ≡ record_of (take count numbers) chains gap (drop at bytes)) where
+  module _ (r : Result Record ℕ) (judged : r ≡ record_of (take count numbers) chains gap (drop at bytes)) where
     same : record_of (map number_of g.read) (length g.placed) gap (drop at bytes) ≡ r
     same =
         ap (λ (l : List ℕ). record_of l (length g.placed) gap (drop at bytes)) (sym known_are)
@@ -79,18 +80,18 @@ module _ (bytes : List ℕ) (tasks : List NumberedTask) (numbers : List ℕ) (ro
         ∙ ap (after_record (read_from (g.left - 1)) g.read g.placed gap at (drop at bytes)) same
 
   module _ (h : at < length bytes) where
-    pub task_inside : (t : NumberedTask) → Task t ≡ record_of (take count numbers) chains gap (drop at bytes) → (at + 18 ≤ length bytes) × (count < 32)
+    pub task_inside : (t : NumberedTask) → Ok (Task t) ≡ record_of (take count numbers) chains gap (drop at bytes) → (at + 18 ≤ length bytes) × (count < 32)
     task_inside t e =
         let i = tells _ _ _ _ _ (sym e) in
         (omega (arith, i.long, length-drop at bytes), omega (arith, i.few, ap length known_are, length-map g.read number_of, g.counted))
 
-    pub chain_inside : (p : ℕ) → Chain p ≡ record_of (take count numbers) chains gap (drop at bytes) → (4 + 2 * p ≤ length (drop at bytes)) × (p ≤ 12) × (at + (4 + 2 * p) ≤ length bytes) × (chains < 4)
+    pub chain_inside : (p : ℕ) → Ok (Chain p) ≡ record_of (take count numbers) chains gap (drop at bytes) → (4 + 2 * p ≤ length (drop at bytes)) × (p ≤ 12) × (at + (4 + 2 * p) ≤ length bytes) × (chains < 4)
     chain_inside p e = let i = tells _ _ _ _ _ (sym e) in (i.long, i.few, omega (arith, i.long, length-drop at bytes), i.few_chains)
 
-    pub gap_inside : (v : ℕ) → Gap v ≡ record_of (take count numbers) chains gap (drop at bytes) → at + 6 ≤ length bytes
+    pub gap_inside : (v : ℕ) → Ok (Gap v) ≡ record_of (take count numbers) chains gap (drop at bytes) → at + 6 ≤ length bytes
     gap_inside v e = let i = tells _ _ _ _ _ (sym e) in omega (arith, i.long, length-drop at bytes)
 
-    pub going_task : (t : NumberedTask) → Task t ≡ record_of (take count numbers) chains gap (drop at bytes)
+    pub going_task : (t : NumberedTask) → Ok (Task t) ≡ record_of (take count numbers) chains gap (drop at bytes)
         → Going bytes (set tasks count t) (set numbers count t.number) routes (count + 1) chains gap (at + 18)
     unfolding after_record
     going_task t e =
@@ -110,10 +111,10 @@ module _ (bytes : List ℕ) (tasks : List NumberedTask) (numbers : List ℕ) (ro
           few_chains = g.few_chains;
           inside = i.0;
           enough = omega (arith, g.enough);
-          whole = turn (Task t) e h ∙ ap (read_from (g.left - 1) (g.read ++ (t ∷ [])) g.placed gap (at + 18)) (drop-drop 18 at bytes);
+          whole = turn (Ok (Task t)) e h ∙ ap (read_from (g.left - 1) (g.read ++ (t ∷ [])) g.placed gap (at + 18)) (drop-drop 18 at bytes);
         }
 
-    pub going_chain : (p : ℕ) → Chain p ≡ record_of (take count numbers) chains gap (drop at bytes)
+    pub going_chain : (p : ℕ) → Ok (Chain p) ≡ record_of (take count numbers) chains gap (drop at bytes)
         → Going bytes tasks numbers (set routes chains (route_of (chain_field (drop at bytes) p))) count (chains + 1) gap (at + (4 + 2 * p))
     unfolding after_record
     going_chain p e =
@@ -134,10 +135,10 @@ module _ (bytes : List ℕ) (tasks : List NumberedTask) (numbers : List ℕ) (ro
           few_chains = omega (arith, i.3);
           inside = i.2;
           enough = omega (arith, g.enough);
-          whole = turn (Chain p) e h ∙ ap (read_from (g.left - 1) g.read (g.placed ++ (ch ∷ [])) gap (at + (4 + 2 * p))) (drop-drop (4 + 2 * p) at bytes);
+          whole = turn (Ok (Chain p)) e h ∙ ap (read_from (g.left - 1) g.read (g.placed ++ (ch ∷ [])) gap (at + (4 + 2 * p))) (drop-drop (4 + 2 * p) at bytes);
         }
 
-    pub going_gap : (v : ℕ) → Gap v ≡ record_of (take count numbers) chains gap (drop at bytes) → Going bytes tasks numbers routes count chains v (at + 6)
+    pub going_gap : (v : ℕ) → Ok (Gap v) ≡ record_of (take count numbers) chains gap (drop at bytes) → Going bytes tasks numbers routes count chains v (at + 6)
     unfolding after_record
     going_gap v e = record {
       read = g.read;
@@ -152,24 +153,24 @@ module _ (bytes : List ℕ) (tasks : List NumberedTask) (numbers : List ℕ) (ro
       few_chains = g.few_chains;
       inside = gap_inside v e;
       enough = omega (arith, g.enough);
-      whole = turn (Gap v) e h ∙ ap (read_from (g.left - 1) g.read g.placed v (at + 6)) (drop-drop 6 at bytes);
+      whole = turn (Ok (Gap v)) e h ∙ ap (read_from (g.left - 1) g.read g.placed v (at + 6)) (drop-drop 6 at bytes);
     }
 
-    pub going_fault : (k : ℕ) → Fault k ≡ record_of (take count numbers) chains gap (drop at bytes) → refused_file k at ≡ read_file bytes
+    pub going_fault : (k : ℕ) → Err k ≡ record_of (take count numbers) chains gap (drop at bytes) → refused_file k at ≡ read_file bytes
     unfolding after_record
-    going_fault k e = sym (turn (Fault k) e h)
+    going_fault k e = sym (turn (Err k) e h)
 
-    pub going_after : End ≡ record_of (take count numbers) chains gap (drop at bytes) → 4 < length (drop at bytes) → refused_file 4 (at + 4) ≡ read_file bytes
+    pub going_after : (Ok End) ≡ record_of (take count numbers) chains gap (drop at bytes) → 4 < length (drop at bytes) → refused_file 4 (at + 4) ≡ read_file bytes
     unfolding after_record
     going_after e k =
-        sym (turn End e h ∙ ap (λ (b : _). cond b (refused_file 4 (at + 4)) (accepted_file g.read g.placed gap)) (lt-ltb 4 (length (drop at bytes)) k))
+        sym (turn (Ok End) e h ∙ ap (λ (b : _). cond b (refused_file 4 (at + 4)) (accepted_file g.read g.placed gap)) (lt-ltb 4 (length (drop at bytes)) k))
 
-    pub going_end : End ≡ record_of (take count numbers) chains gap (drop at bytes) → length (drop at bytes) ≤ 4
-        → ◌≡◌ {A = FileRead} (record { refusal = none; schedule = record { tasks = tasks; routes = routes; count = count; chains = chains; gap = gap } }) (read_file bytes)
+    pub going_end : (Ok End) ≡ record_of (take count numbers) chains gap (drop at bytes) → length (drop at bytes) ≤ 4
+        → ◌≡◌ {A = Result Schedule Refusal} (Ok (record { tasks = tasks; routes = routes; count = count; chains = chains; gap = gap })) (read_file bytes)
     unfolding after_record
     going_end e k =
         rw (g.tasks_are, g.routes_are, g.counted, g.placed_counted)
-        (sym (turn End e h ∙ ap (λ (b : _). cond b (refused_file 4 (at + 4)) (accepted_file g.read g.placed gap)) (le-ltb 4 (length (drop at bytes)) k)))
+        (sym (turn (Ok End) e h ∙ ap (λ (b : _). cond b (refused_file 4 (at + 4)) (accepted_file g.read g.placed gap)) (le-ltb 4 (length (drop at bytes)) k)))
 
   -- Where no byte is left the end is missing.
   pub going_stop : length bytes ≤ at → refused_file 1 at ≡ read_file bytes

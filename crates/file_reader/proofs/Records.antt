@@ -1,15 +1,15 @@
 -- What is known of the bytes of a record from what it was judged to be.
-use Rattle.std.specs.Prelude.{ℕ, zero, suc, ◌+◌, ◌*◌, ◌≤◌, ◌<◌, ◌≡◌, refl, Bool, true, false, cond, ◌&&◌, List, length}
+use Rattle.std.specs.Prelude.{ℕ, zero, suc, ◌+◌, ◌*◌, ◌≤◌, ◌<◌, ◌≡◌, refl, Bool, true, false, cond, ◌&&◌, List, length, Err, Ok, Result}
 use native.Mathlib.Omega.{arith}
 use Rattle.std.proofs.Common.{ap}
 use Rattle.std.proofs.Math.Dec.{ltb, leb, eqb}
 use borrow.Author.Tests.{ltb-true, ltb-false, leb-true, eqb-true, eqb-false}
+use Rattle.file_reader.specs.declared.Record.TheVariants.{Chain, End, Gap, Task}
+use Rattle.file_reader.specs.declared.Record.{Record}
 use Rattle.task.specs.Jobs.{gap_limit}
 use Rattle.schedule.specs.declared.NumberedTask.{NumberedTask}
 use Rattle.schedule.specs.Schedules.{task_rule}
 use Rattle.schedule.specs.Rule.{both}
-use Rattle.file_reader.specs.declared.Record.{Record}
-use Rattle.file_reader.specs.declared.Record.TheVariants.{Task, Chain, Gap, End, Fault}
 use Rattle.file_reader.specs.Reading.{length_field, kind_field, places_field, task_field, chain_field, gap_field, last_of, all_known, task_record, chain_record, end_record, gap_record, kind_record, record_of, numbers_from}
 
 pub length_numbers : (l : List ℕ) (at n : ℕ) → length (numbers_from l at n) ≡ n
@@ -53,15 +53,15 @@ pub record IsEnd (chains : ℕ) (l : List ℕ) : Type 0 where
   pub kind_is : kind_field l ≡ 3
   pub chain : 1 ≤ chains
 
-abbrev pub Tells : List ℕ → ℕ → ℕ → List ℕ → Record → Type 0
-Tells numbers chains gap l (Task t) = IsTask numbers chains l t
-Tells numbers chains gap l (Chain p) = IsChain numbers chains gap l p
-Tells numbers chains gap l (Gap g) = IsGap chains gap l g
-Tells numbers chains gap l End = IsEnd chains l
-Tells numbers chains gap l (Fault k) = (1 ≤ k) × (k ≤ 6)
+abbrev pub Tells : List ℕ → ℕ → ℕ → List ℕ → Result Record ℕ → Type 0
+Tells numbers chains gap l (Ok (Task t)) = IsTask numbers chains l t
+Tells numbers chains gap l (Ok (Chain p)) = IsChain numbers chains gap l p
+Tells numbers chains gap l (Ok (Gap g)) = IsGap chains gap l g
+Tells numbers chains gap l (Ok End) = IsEnd chains l
+Tells numbers chains gap l (Err k) = (1 ≤ k) × (k ≤ 6)
 
 -- a choice has what both sides have
-choice : (P : Record → Type 0) (b : Bool) (x y : Record) → (b ≡ true → P x) → (b ≡ false → P y) → P (cond b x y)
+choice : (P : Result Record ℕ → Type 0) (b : Bool) (x y : Result Record ℕ) → (b ≡ true → P x) → (b ≡ false → P y) → P (cond b x y)
 choice P true x y f g = f refl
 choice P false x y f g = g refl
 
@@ -159,5 +159,5 @@ record_tells ns p g l =
     choice (Tells ns p g l) (ltb (length l) (length_field l)) _ _ (λ c. (omega arith, omega arith)) (λ c.
     kind_tells ns p g l (ltb-false (length l) (length_field l) c))))
 
-pub tells : (ns : List ℕ) (p g : ℕ) (l : List ℕ) (r : Record) → record_of ns p g l ≡ r → Tells ns p g l r
+pub tells : (ns : List ℕ) (p g : ℕ) (l : List ℕ) (r : Result Record ℕ) → record_of ns p g l ≡ r → Tells ns p g l r
 tells ns p g l r e = rw e at (record_tells ns p g l)

@@ -1,4 +1,5 @@
 -- An accepted schedule's file fits the lent bytes, part by part; what is left in them.
+use Rattle.std.specs.Prelude.{Err, Ok, Result}
 use Prim.Native.Nat.{ℕ, ◌+◌, ◌*◌, ◌≤◌, ◌<◌}
 use native.Mathlib.Omega.{arith}
 use mathlib.Core.Path.{◌≡◌, sym, ap, ◌∙◌}
@@ -11,10 +12,9 @@ use Rattle.refusal.specs.declared.Refusal.{Refusal}
 use Rattle.refusal.specs.Refusals.{refusal}
 use Rattle.schedule.specs.declared.Schedule.{Schedule}
 use Rattle.schedule.specs.Schedules.{tasks_in, routes_in, chains_in}
-use Rattle.schedule_checks.specs.Checks.{places_right, fault_of}
+use Rattle.schedule_checks.specs.Checks.{places_right, fault_of, passed}
+use Rattle.schedule_checks.proofs.Passed.{refused_passed}
 use Rattle.schedule_checks.proofs.SoundSchedule.{SoundSchedule}
-use Rattle.file_writer.specs.declared.Written.{Written}
-use Rattle.file_writer.specs.declared.Written.TheVariants.{Bytes, Refused}
 use Rattle.file_writer.specs.FileBytes.{chains_bytes, gap_bytes, file_bytes}
 use Rattle.file_writer.proofs.Lengths.{length_file}
 use Rattle.file_writer.specs.Writing.{length_verdict, written_of, left_bytes}
@@ -46,27 +46,29 @@ room_of s lent n a w =
 
 -- ---- what each check leads to
 
-module _ (s : Schedule) (lent : ℕ) (r : Refusal) (is : r ≡ fault_of s) where
-  pub fault_refused : (r.number ≡ 0 → ⊥) → Refused r ≡ written_of s lent
+module _ (s : Schedule) (lent : ℕ) where
+  pub fault_refused : (r : Refusal) → Err r ≡ passed (fault_of s) → Err r ≡ written_of s lent
   unfolding written_of
-  fault_refused h = ap Refused is ∙ rw (ne_eqb (fault_of s).number 0 (λ z. h (ap (λ (x : Refusal). x.number) is ∙ z)))
+  fault_refused r h =
+      let p = refused_passed (fault_of s) r h in
+      ap (λ (x : Refusal). Err x) p.0 ∙ rw (ne_eqb (fault_of s).number 0 p.1)
 
-  module _ (fine : r.number ≡ 0) (long : ℕ) (whole : long ≡ length (file_bytes s)) where
+  module _ (fine : (fault_of s).number ≡ 0) (long : ℕ) (whole : long ≡ length (file_bytes s)) where
     judged : length_verdict long lent ≡ written_of s lent
-    judged = ap (λ (n : ℕ). length_verdict n lent) whole ∙ sym (sound_written s lent (ap (λ (x : Refusal). x.number) (sym is) ∙ fine))
+    judged = ap (λ (n : ℕ). length_verdict n lent) whole ∙ sym (sound_written s lent fine)
 
-    pub too_short : lent < long → Refused (refusal 11 0) ≡ written_of s lent
+    pub too_short : lent < long → Err (refusal 11 0) ≡ written_of s lent
     unfolding length_verdict
-    too_short h = ap (λ (b : Bool). cond b (Bytes long) (Refused (refusal 11 0))) (sym (lt-leb long lent h)) ∙ judged
+    too_short h = ap (λ (b : Bool). cond b (Ok long) (Err (refusal 11 0))) (sym (lt-leb long lent h)) ∙ judged
 
-    pub long_enough : long ≤ lent → Bytes long ≡ written_of s lent
+    pub long_enough : long ≤ lent → Ok long ≡ written_of s lent
     unfolding length_verdict
-    long_enough h = ap (λ (b : Bool). cond b (Bytes long) (Refused (refusal 11 0))) (sym (le-leb long lent h)) ∙ judged
+    long_enough h = ap (λ (b : Bool). cond b (Ok long) (Err (refusal 11 0))) (sym (le-leb long lent h)) ∙ judged
 
 -- ---- what is left
 
-pub kept : (w : Written) (r : Refusal) (file old : List ℕ) → w ≡ Refused r → old ≡ left_bytes w file old
+pub kept : (w : Result ℕ Refusal) (r : Refusal) (file old : List ℕ) → w ≡ Err r → old ≡ left_bytes w file old
 kept w r file old e = rw e
 
-pub stored : (w : Written) (n : ℕ) (file old new : List ℕ) → w ≡ Bytes n → new ≡ file ++ drop (length file) old → new ≡ left_bytes w file old
+pub stored : (w : Result ℕ Refusal) (n : ℕ) (file old new : List ℕ) → w ≡ Ok n → new ≡ file ++ drop (length file) old → new ≡ left_bytes w file old
 stored w n file old new e h = rw e h

@@ -3,12 +3,12 @@ use Prim.Native.Nat.{ℕ, zero, suc, ◌+◌, ◌*◌, ◌≤◌, ◌<◌}
 use native.Mathlib.Omega.{arith}
 use mathlib.Core.Path.{◌≡◌, refl, sym, ap, ◌∙◌}
 use mathlib.Core.List.{List, [], ◌++◌, map, append_assoc}
-use lib.ListN.{length, take, drop, get_or, length-append}
+use lib.ListN.{length, drop, get_or, length-append}
 use lib.Seq.{sets, length-sets}
 use Rattle.little_endian.specs.LittleEndian.{bytes_of}
 use Rattle.little_endian.proofs.Spelling.{length_bytes}
 use Rattle.little_endian.specs.Stores.{sets_append, sets_front}
-use Rattle.chain.proofs.Front.{front_cons, front_end}
+use Rattle.std.proofs.lemmas.List.{drop_more, drop_all}
 use Rattle.schedule.specs.declared.NumberedTask.{NumberedTask}
 use Rattle.schedule.specs.declared.Route.{Route}
 use Rattle.schedule.specs.Schedules.{zero_numbered, no_route, places_of}
@@ -29,32 +29,32 @@ run_long l m at n vs e h = ap length e ∙ length-sets l at vs ∙ h
 
 -- ---- turns of the loops
 
-pub tasks_turn : (out m : List ℕ) (ts : List NumberedTask) (count i : ℕ) → i < count → count ≤ length ts → m ≡ sets out (18 * i) (task_bytes (get_or ts i zero_numbered))
-    → sets out (18 * i) (tasks_bytes (drop i (take count ts))) ≡ sets m (18 * (i + 1)) (tasks_bytes (drop (i + 1) (take count ts)))
+pub tasks_turn : (out m : List ℕ) (ts : List NumberedTask) (i : ℕ) → i < length ts → m ≡ sets out (18 * i) (task_bytes (get_or ts i zero_numbered))
+    → sets out (18 * i) (tasks_bytes (drop i ts)) ≡ sets m (18 * (i + 1)) (tasks_bytes (drop (i + 1) ts))
 unfolding tasks_bytes
-tasks_turn out m ts count i h g e =
+tasks_turn out m ts i h e =
     let s : 18 * i + length (task_bytes (get_or ts i zero_numbered)) ≡ 18 * (i + 1) = omega (arith, length_task (get_or ts i zero_numbered)) in
-    rw (front_cons ts count i zero_numbered h g)
-    (sym (two_runs out m _ (18 * i) (18 * (i + 1)) (task_bytes (get_or ts i zero_numbered)) (tasks_bytes (drop (i + 1) (take count ts))) s e refl))
+    rw (drop_more ts i zero_numbered h)
+    (sym (two_runs out m _ (18 * i) (18 * (i + 1)) (task_bytes (get_or ts i zero_numbered)) (tasks_bytes (drop (i + 1) ts)) s e refl))
 
-pub tasks_end : (out : List ℕ) (ts : List NumberedTask) (at count i : ℕ) → count ≤ i → count ≤ length ts → sets out at (tasks_bytes (drop i (take count ts))) ≡ out
+pub tasks_end : (out : List ℕ) (ts : List NumberedTask) (at i : ℕ) → length ts ≤ i → sets out at (tasks_bytes (drop i ts)) ≡ out
 unfolding tasks_bytes
-tasks_end out ts at count i h g = rw (front_end ts count i h g)
+tasks_end out ts at i h = rw (drop_all i ts h)
 
 pub places_start : (out : List ℕ) (at : ℕ) (b : List ℕ) → sets out at b ≡ sets out (at + 2 * 0) b
 places_start out at b = let e : at + 2 * 0 ≡ at = omega arith in rw e
 
-pub places_turn : (out m ch : List ℕ) (at places i : ℕ) → i < places → places ≤ length ch → m ≡ sets out (at + 2 * i) (bytes_of 2 (get_or ch i 0))
-    → sets out (at + 2 * i) (numbers_bytes (drop i (take places ch))) ≡ sets m (at + 2 * (i + 1)) (numbers_bytes (drop (i + 1) (take places ch)))
+pub places_turn : (out m ch : List ℕ) (at i : ℕ) → i < length ch → m ≡ sets out (at + 2 * i) (bytes_of 2 (get_or ch i 0))
+    → sets out (at + 2 * i) (numbers_bytes (drop i ch)) ≡ sets m (at + 2 * (i + 1)) (numbers_bytes (drop (i + 1) ch))
 unfolding numbers_bytes
-places_turn out m ch at places i h g e =
+places_turn out m ch at i h e =
     let s : at + 2 * i + 2 ≡ at + 2 * (i + 1) = omega arith in
-    rw (front_cons ch places i 0 h g)
-    (sym (field_run out m _ (at + 2 * i) (at + 2 * (i + 1)) 2 (get_or ch i 0) (numbers_bytes (drop (i + 1) (take places ch))) s e refl))
+    rw (drop_more ch i 0 h)
+    (sym (field_run out m _ (at + 2 * i) (at + 2 * (i + 1)) 2 (get_or ch i 0) (numbers_bytes (drop (i + 1) ch)) s e refl))
 
-pub places_end : (out ch : List ℕ) (at places i : ℕ) → places ≤ i → places ≤ length ch → sets out at (numbers_bytes (drop i (take places ch))) ≡ out
+pub places_end : (out ch : List ℕ) (at i : ℕ) → length ch ≤ i → sets out at (numbers_bytes (drop i ch)) ≡ out
 unfolding numbers_bytes
-places_end out ch at places i h g = rw (front_end ch places i h g)
+places_end out ch at i h = rw (drop_all i ch h)
 
 -- a record's length and kind are 4 bytes
 head_long : (at long kind : ℕ) → at + length (bytes_of 2 long ++ bytes_of 2 kind) ≡ at + 4
@@ -71,27 +71,27 @@ module _ (a b c ch : List ℕ) (at places : ℕ) (counted : places ≡ length ch
       ∙ ap (sets a at) (append_assoc (bytes_of 2 (4 + 2 * places)) (bytes_of 2 2) (numbers_bytes ch))
       ∙ ap (λ (n : ℕ). sets a at (bytes_of 2 (4 + 2 * n) ++ (bytes_of 2 2 ++ numbers_bytes ch))) counted
 
--- the chains from i on, of the first `chains` routes
-abbrev pub left : List Route → ℕ → ℕ → List ℕ
-left rs chains i = chains_bytes (map places_of (drop i (take chains rs)))
+-- the chains from i on
+abbrev pub left : List Route → ℕ → List ℕ
+left rs i = chains_bytes (map places_of (drop i rs))
 
-module _ (rs : List Route) (chains i : ℕ) (h : i < chains) (g : chains ≤ length rs) where
-  left_cons : left rs chains i ≡ chain_bytes (places_of (get_or rs i no_route)) ++ left rs chains (i + 1)
+module _ (rs : List Route) (i : ℕ) (h : i < length rs) where
+  left_cons : left rs i ≡ chain_bytes (places_of (get_or rs i no_route)) ++ left rs (i + 1)
   unfolding chains_bytes
-  left_cons = rw (front_cons rs chains i no_route h g)
+  left_cons = rw (drop_more rs i no_route h)
 
-  pub left_long : length (left rs chains i) ≡ length (chain_bytes (places_of (get_or rs i no_route))) + length (left rs chains (i + 1))
-  left_long = ap length left_cons ∙ length-append (chain_bytes (places_of (get_or rs i no_route))) (left rs chains (i + 1))
+  pub left_long : length (left rs i) ≡ length (chain_bytes (places_of (get_or rs i no_route))) + length (left rs (i + 1))
+  left_long = ap length left_cons ∙ length-append (chain_bytes (places_of (get_or rs i no_route))) (left rs (i + 1))
 
   pub routes_turn : (out m : List ℕ) (at next : ℕ) → at + length (chain_bytes (places_of (get_or rs i no_route))) ≡ next → m ≡ sets out at (chain_bytes (places_of (get_or rs i no_route)))
-      → sets out at (left rs chains i) ≡ sets m next (left rs chains (i + 1))
+      → sets out at (left rs i) ≡ sets m next (left rs (i + 1))
   routes_turn out m at next s e =
-      ap (sets out at) left_cons ∙ sym (two_runs out m _ at next (chain_bytes (places_of (get_or rs i no_route))) (left rs chains (i + 1)) s e refl)
+      ap (sets out at) left_cons ∙ sym (two_runs out m _ at next (chain_bytes (places_of (get_or rs i no_route))) (left rs (i + 1)) s e refl)
 
-module _ (rs : List Route) (chains i : ℕ) (h : chains ≤ i) (g : chains ≤ length rs) where
-  pub left_none : left rs chains i ≡ []
+module _ (rs : List Route) (i : ℕ) (h : length rs ≤ i) where
+  pub left_none : left rs i ≡ []
   unfolding chains_bytes
-  left_none = rw (front_end rs chains i h g)
+  left_none = rw (drop_all i rs h)
 
 -- ---- the gap
 

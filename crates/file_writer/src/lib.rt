@@ -2,7 +2,7 @@
 // `write_file` is the entry point; the other functions judge a schedule or store one part of its file.
 #![tactic(auto)]
 
-ghost use Rattle.std.specs.Prelude.{◌≡◌, true, ◌++◌, map, ◌+◌, ◌*◌, ◌≤◌, ◌<◌, length, take};
+ghost use Rattle.std.specs.Prelude.{◌≡◌, true, ◌++◌, map, ◌+◌, ◌*◌, ◌≤◌, ◌<◌, length};
 ghost use Rattle.little_endian.specs.LittleEndian.{bytes_of};
 ghost use Rattle.std.proofs.lemmas.List.Edits.{sets};
 ghost use Rattle.schedule.specs.Schedules.{places_of};
@@ -12,13 +12,6 @@ ghost use Rattle.file_writer.specs.FileBytes.{task_bytes, tasks_bytes, numbers_b
 
 use refusal::Refusal;
 use schedule::{NumberedTask, Route, Schedule};
-
-// The length of the file that was written, or the refusal.
-#[derive(Clone, Copy)]
-pub enum Written {
-    Bytes(usize),
-    Refused(Refusal),
-}
 
 // ---- the checks
 
@@ -31,15 +24,13 @@ fn route_length(c: Route) -> usize
 }
 
 // The length of the chain records.
-fn routes_length(routes: [Route; 4], chains: usize) -> usize
-    requires { (chains ≤ 4) × (places_right (take chains routes) ≡ true) }
-    ensures { (result ≡ length (chains_bytes (map places_of (take chains routes)))) × (result ≤ 112) }
+fn routes_length(routes: &[Route]) -> usize
+    requires { (length routes.now ≤ 4) × (places_right routes.now ≡ true) }
+    ensures { (result ≡ length (chains_bytes (map places_of routes.now))) × (result ≤ 112) }
 {
-    let mut long: usize = 0;
-    let mut i: usize = 0;
-    while i < chains {
-        long += route_length(routes[i]);
-        i += 1;
+    let mut long = 0;
+    for route in routes {
+        long += route_length(*route);
     }
     long
 }
@@ -55,22 +46,15 @@ fn gap_length(gap: u64) -> usize
 }
 
 // What writing answers, `lent` bytes being lent to it: 8, 5, 6 of the schedule, 11, or the file's length.
-fn judge(s: Schedule, lent: usize) -> Written
+fn judge(s: Schedule, lent: usize) -> Result<usize, Refusal>
     ensures { result ≡ written_of s lent }
 {
-    let r = schedule_checks::fault_of(s);
-    if r.number != 0 {
-        return Written::Refused(r);
-    }
-    let routes = s.routes;
-    let long = 18 * s.count + routes_length(routes, s.chains) + gap_length(s.gap) + 4;
+    schedule_checks::check(s)?;
+    let long = 18 * s.count + routes_length(&s.routes[..s.chains]) + gap_length(s.gap) + 4;
     if lent < long {
-        return Written::Refused(Refusal {
-            number: 11,
-            place: 0,
-        });
+        return Err(Refusal::LISTS_TOO_SHORT);
     }
-    Written::Bytes(long)
+    Ok(long)
 }
 
 // ---- the parts of the file
@@ -90,26 +74,22 @@ fn put_task(out: &mut [u8], at: usize, t: NumberedTask)
 }
 
 // Stores the task records, from the first byte on.
-fn put_tasks(out: &mut [u8], tasks: [NumberedTask; 32], count: usize)
-    requires { (count ≤ 32) × (18 * count ≤ length out.old) }
-    ensures { out.new ≡ sets out.old 0 (tasks_bytes (take count tasks)) }
+fn put_tasks(out: &mut [u8], tasks: &[NumberedTask])
+    requires { 18 * length tasks.now ≤ length out.old }
+    ensures { out.new ≡ sets out.old 0 (tasks_bytes tasks.now) }
 {
-    let mut i: usize = 0;
-    while i < count {
-        put_task(out, 18 * i, tasks[i]);
-        i += 1;
+    for (i, task) in tasks.iter().enumerate() {
+        put_task(out, 18 * i, *task);
     }
 }
 
 // Stores the numbers of a chain, 2 bytes each.
-fn put_places(out: &mut [u8], at: usize, chain: [u64; 12], places: usize)
-    requires { (places ≤ 12) × (at + 2 * places ≤ length out.old) }
-    ensures { out.new ≡ sets out.old at (numbers_bytes (take places chain)) }
+fn put_places(out: &mut [u8], at: usize, chain: &[u64])
+    requires { at + 2 * length chain.now ≤ length out.old }
+    ensures { out.new ≡ sets out.old at (numbers_bytes chain.now) }
 {
-    let mut i: usize = 0;
-    while i < places {
-        little_endian::put_number(out, at + 2 * i, 2, chain[i]);
-        i += 1;
+    for (i, number) in chain.iter().enumerate() {
+        little_endian::put_number(out, at + 2 * i, 2, *number);
     }
 }
 
@@ -127,22 +107,19 @@ fn put_route(out: &mut [u8], at: usize, c: Route) -> usize
     requires { (c.count ≤ 12) × (at + length (chain_bytes (places_of c)) ≤ length out.old) }
     ensures { (out.new ≡ sets out.old at (chain_bytes (places_of c))) × (result ≡ at + length (chain_bytes (places_of c))) }
 {
-    let places = c.places;
     put_head(out, at, 4 + 2 * (c.count as u64), 2);
-    put_places(out, at + 4, places, c.count);
+    put_places(out, at + 4, &c.places[..c.count]);
     at + 4 + 2 * c.count
 }
 
 // Stores the chain records, and answers the offset after them.
-fn put_routes(out: &mut [u8], from: usize, routes: [Route; 4], chains: usize) -> usize
-    requires { (chains ≤ 4) × (places_right (take chains routes) ≡ true) × (from + length (chains_bytes (map places_of (take chains routes))) ≤ length out.old) }
-    ensures { (out.new ≡ sets out.old from (chains_bytes (map places_of (take chains routes)))) × (result ≡ from + length (chains_bytes (map places_of (take chains routes)))) }
+fn put_routes(out: &mut [u8], from: usize, routes: &[Route]) -> usize
+    requires { (places_right routes.now ≡ true) × (from + length (chains_bytes (map places_of routes.now)) ≤ length out.old) }
+    ensures { (out.new ≡ sets out.old from (chains_bytes (map places_of routes.now))) × (result ≡ from + length (chains_bytes (map places_of routes.now))) }
 {
     let mut at = from;
-    let mut i: usize = 0;
-    while i < chains {
-        at = put_route(out, at, routes[i]);
-        i += 1;
+    for route in routes {
+        at = put_route(out, at, *route);
     }
     at
 }
@@ -160,25 +137,14 @@ fn put_gap(out: &mut [u8], at: usize, gap: u64) -> usize
     at + 6
 }
 
-// Writes a schedule's file into lent bytes.
-pub fn write_file(s: Schedule, out: &mut [u8]) -> Written
+// Writes a schedule's file into lent bytes, and answers its length.
+pub fn write_file(s: Schedule, out: &mut [u8]) -> Result<usize, Refusal>
     ensures { Writes s out.old result out.new }
 {
-    let w = judge(s, out.len());
-    match w {
-        Written::Refused(_) => {
-            return w;
-        }
-        Written::Bytes(_) => {}
-    }
-    let tasks = s.tasks;
-    let routes = s.routes;
-    let count = s.count;
-    let chains = s.chains;
-    let gap = s.gap;
-    put_tasks(out, tasks, count);
-    let at = put_routes(out, 18 * count, routes, chains);
-    let end = put_gap(out, at, gap);
+    let long = judge(s, out.len())?;
+    put_tasks(out, &s.tasks[..s.count]);
+    let at = put_routes(out, 18 * s.count, &s.routes[..s.chains]);
+    let end = put_gap(out, at, s.gap);
     put_head(out, end, 4, 3);
-    w
+    Ok(long)
 }

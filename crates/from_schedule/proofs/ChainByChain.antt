@@ -1,9 +1,11 @@
 -- "Table and walk must agree chain by chain" (order 1 of document 02): the third demand of every chain of every schedule with any permitted gap (order 5), of the analyses from a schedule.
 -- The table that making gives of chain n is read at every tick as walking chain n gives it (`table_is_walk_from`); its greatest latency is the greatest delay of walking and 1 + the greatest age of ageing chain n
 -- (`greatest_from_holds`); two cuts give the same anchors (`cuts_agree_from`); its mean by area is that of walking chain n at every time of a hyperperiod (`mean_from`), and its histogram counts the delays of walking chain n (`counts_from`). With no premise on what making answers: `every_chain_from`, `every_two_cuts_from`.
-use Rattle.std.specs.Prelude.{ℕ, suc, ◌≤◌, ◌≡◌, List, length}
+use Rattle.std.specs.Prelude.{ℕ, suc, ◌≤◌, ◌≡◌, List, length, Err, Ok, Result}
 use Rattle.std.proofs.Common.{arith, ◌∙◌}
 use Rattle.std.proofs.Math.Decide.{dec_lt}
+use Rattle.refusal.specs.declared.Refusal.{Refusal}
+use Rattle.maker.specs.declared.Unmade.{Unmade}
 use Rattle.chain.specs.declared.Chain.{Chain}
 use Rattle.chain.specs.Chains.{tasks_of}
 use Rattle.schedule.specs.declared.Schedule.{Schedule}
@@ -11,18 +13,13 @@ use Rattle.schedule.specs.Schedules.{chain_at}
 use Rattle.schedule.specs.Arrays.{Arrays}
 use Rattle.schedule_checks.specs.Checks.{choice_of}
 use Rattle.schedule_checks.proofs.ChosenChain.{chosen_twelve, choice_answers}
-use Rattle.timing.specs.declared.Span.TheVariants.{Ticks, Refused}
 use Rattle.timing.specs.WarmUp.{warm_tick}
 use Rattle.timing.specs.Delay.{delay_at, first_aged, age_at}
 use Rattle.timing.specs.Answers.{upper_tick, delay_of, age_of}
 use Rattle.table.specs.Reading.{reading}
-use Rattle.figures.specs.declared.Greatest.TheVariants.{Latency}
 use Rattle.figures.specs.Figures.{greatest_of}
 use Rattle.maker.specs.declared.Figures.{Figures}
-use Rattle.maker.specs.declared.Made.{Made}
-use Rattle.maker.specs.declared.Made.TheVariants.{Whole}
 use Rattle.maker.specs.Making.{figures_of, Makes}
-use Rattle.histogram.specs.declared.Histogram.{Histogram}
 use Rattle.histogram.specs.Histogram.{Gives}
 use Rattle.histogram.proofs.EveryHyperperiod.{CountsDelays}
 use Rattle.agreement.specs.GreatestAge.{GreatestWithin}
@@ -35,15 +32,15 @@ use Rattle.from_schedule.specs.Answers.{delay_from, age_from, MakesFrom}
 -- Greatest latency = greatest delay = 1 + greatest age, as the analyses of chain n answer them.
 pub record SameGreatestFrom (s : Schedule) (n : ℕ) (starts latencies : List ℕ) (f : Figures) : Type 0 where
   pub latency : ℕ
-  pub answered : greatest_of starts latencies f.anchors f.hyperperiod ≡ Latency latency
-  pub walked : (t : ℕ) → f.tick.0 ≤ t → t ≤ upper_tick → delay_from s n t ≡ Ticks (delay_at (tasks_of (chain_at s n)) t)
-  pub aged : (z : ℕ) → first_aged (tasks_of (chain_at s n)) ≤ z → z ≤ upper_tick → age_from s n z ≡ Ticks (age_at (tasks_of (chain_at s n)) z)
+  pub answered : greatest_of starts latencies f.anchors f.hyperperiod ≡ Ok latency
+  pub walked : (t : ℕ) → f.tick.0 ≤ t → t ≤ upper_tick → delay_from s n t ≡ Ok (delay_at (tasks_of (chain_at s n)) t)
+  pub aged : (z : ℕ) → first_aged (tasks_of (chain_at s n)) ≤ z → z ≤ upper_tick → age_from s n z ≡ Ok (age_at (tasks_of (chain_at s n)) z)
   pub greatest_delay : GreatestWithin (delay_at (tasks_of (chain_at s n))) f.tick.0 upper_tick latency
   pub greatest_age : GreatestWithin (λ z. suc (age_at (tasks_of (chain_at s n)) z)) (first_aged (tasks_of (chain_at s n))) upper_tick latency
 
 -- What the third demand says of one table of chain n.
-pub record AgreedFrom (s : Schedule) (n : ℕ) (starts latencies : List ℕ) (r : Made) (f : Figures) : Type 0 where
-  pub completed : r ≡ Whole f
+pub record AgreedFrom (s : Schedule) (n : ℕ) (starts latencies : List ℕ) (r : Result Figures Unmade) (f : Figures) : Type 0 where
+  pub completed : r ≡ Ok f
   pub from : f.tick.0 ≡ warm_tick (tasks_of (chain_at s n))
   pub delays : (t : ℕ) → warm_tick (tasks_of (chain_at s n)) ≤ t → t ≤ upper_tick → SameTicks (delay_from s n t) (reading starts latencies f.anchors f.hyperperiod t)
   pub greatest : SameGreatestFrom s n starts latencies f
@@ -53,10 +50,10 @@ module _ (s : Schedule) (a : Arrays s) (n : ℕ) where
   module _ (chosen : (choice_of s n).number ≡ 0) where
     -- the analyses from the schedule are those of the chain
     pub delay_chosen : (t : ℕ) → delay_from s n t ≡ delay_of (chain_at s n) t
-    delay_chosen t = choice_answers s n Refused (λ (c : Chain). delay_of c t) chosen
+    delay_chosen t = choice_answers s n Err (λ (c : Chain). delay_of c t) chosen
 
     pub age_chosen : (z : ℕ) → age_from s n z ≡ age_of (chain_at s n) z
-    age_chosen z = choice_answers s n Refused (λ (c : Chain). age_of c z) chosen
+    age_chosen z = choice_answers s n Err (λ (c : Chain). age_of c z) chosen
 
     same_from : (starts latencies : List ℕ) (f : Figures) → SameGreatest (chain_at s n) starts latencies f → SameGreatestFrom s n starts latencies f
     same_from starts latencies f k = record {
@@ -69,7 +66,7 @@ module _ (s : Schedule) (a : Arrays s) (n : ℕ) where
     }
 
     -- For every accepted chain of a sound schedule, every place of it and every two lists that hold its anchors,
-    pub every_chain_from : (h p : ℕ) (starts latencies starts' latencies' : List ℕ) (r : Made) → Asked (chain_at s n) p h (length starts) (length latencies)
+    pub every_chain_from : (h p : ℕ) (starts latencies starts' latencies' : List ℕ) (r : Result Figures Unmade) → Asked (chain_at s n) p h (length starts) (length latencies)
         → anchor_count (chain_at s n) p h ≤ length starts → MakesFrom s n p starts latencies starts' latencies' r → AgreedFrom s n starts' latencies' r (figures_of (chain_at s n) p h)
     every_chain_from h p starts latencies starts' latencies' r asked enough makes =
         let k = every_chain (chain_at s n) (chosen_twelve s n a chosen) h p starts latencies starts' latencies' r asked enough (makes.answered chosen) in
@@ -81,7 +78,7 @@ module _ (s : Schedule) (a : Arrays s) (n : ℕ) where
         }
 
     -- and every two places of it.
-    pub every_two_cuts_from : (h p q : ℕ) (starts latencies starts' latencies' x y x' y' : List ℕ) (r t : Made)
+    pub every_two_cuts_from : (h p q : ℕ) (starts latencies starts' latencies' x y x' y' : List ℕ) (r t : Result Figures Unmade)
         → Asked (chain_at s n) p h (length starts) (length latencies) → anchor_count (chain_at s n) p h ≤ length starts → MakesFrom s n p starts latencies starts' latencies' r
         → Asked (chain_at s n) q h (length x) (length y) → anchor_count (chain_at s n) q h ≤ length x → MakesFrom s n q x y x' y' t
         → SameAnchors starts' latencies' x' y' (figures_of (chain_at s n) p h) (figures_of (chain_at s n) q h)
@@ -89,14 +86,14 @@ module _ (s : Schedule) (a : Arrays s) (n : ℕ) where
         every_two_cuts (chain_at s n) (chosen_twelve s n a chosen) h p q starts latencies starts' latencies' x y x' y' r t k e (m.answered chosen) l f (o.answered chosen)
 
   -- of a table that was completed
-  module _ (p : ℕ) (starts latencies starts' latencies' : List ℕ) (f : Figures) (makes : MakesFrom s n p starts latencies starts' latencies' (Whole f)) where
+  module _ (p : ℕ) (starts latencies starts' latencies' : List ℕ) (f : Figures) (makes : MakesFrom s n p starts latencies starts' latencies' (Ok f)) where
     pub completed_chosen : (choice_of s n).number ≡ 0
     completed_chosen = elim (dec_lt (choice_of s n).number 1) [
       | yes e ↦ omega arith
       | no e ↦ absurd (let q = (makes.refused (λ z. omega arith)).0 in let z : ◌≡◌ {A = ℕ} 0 1 = cc in omega arith)
     ]
 
-    pub made : Makes (chain_at s n) p starts latencies starts' latencies' (Whole f)
+    pub made : Makes (chain_at s n) p starts latencies starts' latencies' (Ok f)
     made = makes.answered completed_chosen
 
     pub table_is_walk_from : (t : ℕ) → f.tick.0 ≤ t → t ≤ upper_tick → SameTicks (delay_from s n t) (reading starts' latencies' f.anchors f.hyperperiod t)
@@ -110,11 +107,11 @@ module _ (s : Schedule) (a : Arrays s) (n : ℕ) where
     mean_from = mean_is_integral (chain_at s n) (chosen_twelve s n a completed_chosen) p starts latencies starts' latencies' f made
 
     -- How often each delay occurs, of the walk's delays at the ticks of a hyperperiod.
-    pub counts_from : (width : ℕ) (counts list : List ℕ) (r : Histogram) → Gives starts' latencies' f.anchors f.hyperperiod width counts list r → 1 ≤ width
+    pub counts_from : (width : ℕ) (counts list : List ℕ) (r : Result ℕ Refusal) → Gives starts' latencies' f.anchors f.hyperperiod width counts list r → 1 ≤ width
         → CountsDelays (delay_at (tasks_of (chain_at s n))) f.tick.0 f.hyperperiod width counts list r
     counts_from = counts_walks (chain_at s n) (chosen_twelve s n a completed_chosen) p starts latencies starts' latencies' f made
 
-  pub cuts_agree_from : (p q : ℕ) (starts latencies starts' latencies' : List ℕ) (f : Figures) → MakesFrom s n p starts latencies starts' latencies' (Whole f)
-      → (x y x' y' : List ℕ) (g : Figures) → MakesFrom s n q x y x' y' (Whole g) → SameAnchors starts' latencies' x' y' f g
+  pub cuts_agree_from : (p q : ℕ) (starts latencies starts' latencies' : List ℕ) (f : Figures) → MakesFrom s n p starts latencies starts' latencies' (Ok f)
+      → (x y x' y' : List ℕ) (g : Figures) → MakesFrom s n q x y x' y' (Ok g) → SameAnchors starts' latencies' x' y' f g
   cuts_agree_from p q starts latencies starts' latencies' f makes x y x' y' g other =
       cuts_agree (chain_at s n) (chosen_twelve s n a (completed_chosen p starts latencies starts' latencies' f makes)) p q starts latencies starts' latencies' f (made p starts latencies starts' latencies' f makes) x y x' y' g (made q x y x' y' g other)

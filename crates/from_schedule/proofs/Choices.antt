@@ -1,26 +1,21 @@
 -- What holds after the choice of a chain, one law for each return.
+use Rattle.std.specs.Prelude.{Ok, Err}
 use Prim.Native.Nat.{ℕ}
-use mathlib.Core.Path.{◌≡◌, sym, ap, ◌∙◌}
+use mathlib.Core.Path.{◌≡◌}
 use Rattle.refusal.specs.declared.Refusal.{Refusal}
 use Rattle.chain.specs.declared.Chain.{Chain}
 use Rattle.schedule.specs.declared.Schedule.{Schedule}
-use Rattle.schedule_checks.specs.declared.Chosen.{Chosen}
 use Rattle.schedule_checks.specs.Checks.{choice_of, chosen_of}
-use Rattle.schedule_checks.proofs.ChosenChain.{chosen_refusal, chosen_chain}
+use Rattle.schedule_checks.proofs.ChosenChain.{is_chosen, is_refused}
 use Rattle.from_schedule.specs.Answers.{HoldsAfter}
 
-module _ (s : Schedule) (n : ℕ) (Refused : Refusal → Type 0) (Answered : Chain → Type 0) (c : Chosen) (is : c ≡ chosen_of s n) where
-  same : c.refusal ≡ choice_of s n
-  same = ap (λ (x : Chosen). x.refusal) is ∙ chosen_refusal s n
+module _ (s : Schedule) (n : ℕ) (Refused : Refusal → Type 0) (Answered : Chain → Type 0) where
+  pub holds_refused : (r : Refusal) → Err r ≡ chosen_of s n → Refused r → HoldsAfter s n Refused Answered
+  holds_refused r e k =
+      let i = is_refused s n r e in
+      record { refused = λ z. rw i.1 at k; answered = λ z. absurd (i.0 z) }
 
-  number : c.refusal.number ≡ (choice_of s n).number
-  number = ap (λ (r : Refusal). r.number) same
-
-  pub holds_refused : (c.refusal.number ≡ 0 → ⊥) → Refused c.refusal → HoldsAfter s n Refused Answered
-  holds_refused h k = record { refused = λ z. rw same at k; answered = λ z. absurd (h (number ∙ z)) }
-
-  pub holds_made : c.refusal.number ≡ 0 → Answered c.chain → HoldsAfter s n Refused Answered
-  holds_made h k = record {
-    refused = λ z. absurd (z (sym number ∙ h));
-    answered = λ z. rw (ap (λ (x : Chosen). x.chain) is ∙ chosen_chain s n z) at k;
-  }
+  pub holds_made : (c : Chain) → Ok c ≡ chosen_of s n → Answered c → HoldsAfter s n Refused Answered
+  holds_made c e k =
+      let i = is_chosen s n c e in
+      record { refused = λ z. absurd (z i.0); answered = λ z. rw i.1 at k }

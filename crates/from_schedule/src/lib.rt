@@ -6,52 +6,36 @@ ghost use Rattle.std.specs.Prelude.{◌≡◌};
 ghost use Rattle.from_schedule.specs.Answers.{warm_up_from, delay_from, age_from, MakesFrom, windows_from, bookings_from, sections_from};
 
 use bookings::Bookings;
-use maker::Made;
+use maker::{Figures, Unmade};
+use refusal::Refusal;
 use schedule::Schedule;
 use sections::Sections;
-use task::{Job, Tick};
-use timing::{Span, WarmUp};
+use task::Tick;
+use timing::WarmUp;
 use windows::Windows;
 
 // Warm-up of chain n.
-pub fn warm_up_of(s: Schedule, n: usize) -> WarmUp
+pub fn warm_up_of(s: Schedule, n: usize) -> Result<WarmUp, Refusal>
     ensures { result ≡ warm_up_from s n }
 {
-    let c = schedule_checks::chain_number(s, n);
-    let r = c.refusal;
-    if r.number != 0 {
-        return WarmUp {
-            refusal: r,
-            jobs: [Job(0); 12],
-            tick: Tick(0),
-            hyperperiod: 0,
-        };
-    }
-    timing::warm_up(c.chain)
+    let c = schedule_checks::chain_number(s, n)?;
+    timing::warm_up(c)
 }
 
 // Walking: the delay of chain n at tick t.
-pub fn delay_of(s: Schedule, n: usize, t: Tick) -> Span
+pub fn delay_of(s: Schedule, n: usize, t: Tick) -> Result<u64, Refusal>
     ensures { result ≡ delay_from s n t.0 }
 {
-    let c = schedule_checks::chain_number(s, n);
-    let r = c.refusal;
-    if r.number != 0 {
-        return Span::Refused(r);
-    }
-    timing::delay(c.chain, t)
+    let c = schedule_checks::chain_number(s, n)?;
+    timing::delay(c, t)
 }
 
 // Ageing: the age of chain n at tick z.
-pub fn age_of(s: Schedule, n: usize, z: Tick) -> Span
+pub fn age_of(s: Schedule, n: usize, z: Tick) -> Result<u64, Refusal>
     ensures { result ≡ age_from s n z.0 }
 {
-    let c = schedule_checks::chain_number(s, n);
-    let r = c.refusal;
-    if r.number != 0 {
-        return Span::Refused(r);
-    }
-    timing::age(c.chain, z)
+    let c = schedule_checks::chain_number(s, n)?;
+    timing::age(c, z)
 }
 
 // Making the table of chain n, cut at place p.
@@ -61,63 +45,35 @@ pub fn make_table_of(
     p: usize,
     starts: &mut [u64],
     latencies: &mut [u64],
-) -> Made
+) -> Result<Figures, Unmade>
     ensures { MakesFrom s n p starts.old latencies.old starts.new latencies.new result }
 {
-    let c = schedule_checks::chain_number(s, n);
-    let r = c.refusal;
-    if r.number != 0 {
-        return Made::Refused(r);
-    }
-    maker::make_table(c.chain, p, starts, latencies)
+    let c = schedule_checks::chain_number(s, n)?;
+    maker::make_table(c, p, starts, latencies)
 }
 
 // Windows of k jobs of chain n.
-pub fn most_misses_of(s: Schedule, n: usize, b: u64, k: u64) -> Windows
+pub fn most_misses_of(s: Schedule, n: usize, b: u64, k: u64) -> Result<Windows, Refusal>
     ensures { result ≡ windows_from s n b k }
 {
-    let c = schedule_checks::chain_number(s, n);
-    let r = c.refusal;
-    if r.number != 0 {
-        return Windows::Refused(r);
-    }
-    windows::most_misses(c.chain, b, k)
+    let c = schedule_checks::chain_number(s, n)?;
+    windows::most_misses(c, b, k)
 }
 
 // Two chains: the bookings of a press at tick t by chain `first` and by chain `second`.
-pub fn pair_of(s: Schedule, first: usize, second: usize, t: Tick) -> Bookings
+pub fn pair_of(s: Schedule, first: usize, second: usize, t: Tick) -> Result<Bookings, Refusal>
     ensures { result ≡ bookings_from s first second t.0 }
 {
-    let r = schedule_checks::fault_of(s);
-    if r.number != 0 {
-        return Bookings::Refused(r);
-    }
-    let c = schedule_checks::chain_in(s, first);
-    let p = c.refusal;
-    if p.number != 0 {
-        return Bookings::Refused(p);
-    }
-    let d = schedule_checks::chain_in(s, second);
-    let q = d.refusal;
-    if q.number != 0 {
-        return Bookings::Refused(q);
-    }
-    bookings::pair(c.chain, d.chain, t)
+    schedule_checks::check(s)?;
+    let c = schedule_checks::chain_in(s, first)?;
+    let d = schedule_checks::chain_in(s, second)?;
+    bookings::pair(c, d, t)
 }
 
 // Sections of chain n, cut at these cuts.
-pub fn section_latencies_of(s: Schedule, n: usize, cuts: &[u64]) -> Sections
+pub fn section_latencies_of(s: Schedule, n: usize, cuts: &[u64]) -> Result<Sections, Refusal>
     ensures { result ≡ sections_from s n cuts.now }
 {
-    let c = schedule_checks::chain_number(s, n);
-    let r = c.refusal;
-    if r.number != 0 {
-        return Sections {
-            refusal: r,
-            latencies: [0u64; 12],
-            count: 0,
-            sum: 0,
-        };
-    }
-    sections::section_latencies(c.chain, cuts)
+    let c = schedule_checks::chain_number(s, n)?;
+    sections::section_latencies(c, cuts)
 }

@@ -1,7 +1,7 @@
 -- How the counts are had without a look at each tick. The list holds the differences of neighbouring entries, modulo 2 ^ 64. A range of delays, from `low` up to below `end`, changes
 -- four of them, however many entries it covers: from the entry of `low` on, each gets its delays from `low` on, and from the entry of `end` on, those from `end` on are taken off
 -- again. The sums of the first 1, 2, 3, .. differences are then the entries.
-use Rattle.std.specs.Prelude.{◌≡◌, ℕ, zero, suc, ◌+◌, ◌-◌, ◌*◌, ◌/◌, ◌%◌, ◌^◌, ◌<◌, ◌≤◌, min, max, Bool, true, false, cond, List, [], ◌∷◌, length, take, nat_lt, slice_index, slice_set, refl}
+use Rattle.std.specs.Prelude.{◌≡◌, ℕ, zero, suc, ◌+◌, ◌-◌, ◌*◌, ◌/◌, ◌%◌, ◌<◌, ◌≤◌, min, max, Bool, true, false, cond, List, [], ◌∷◌, length, take, nat_lt, slice_index, refl}
 use native.Mathlib.Omega.{arith}
 use Rattle.std.proofs.Common.{div-add-mod', mul-le-mul_right, sym, ◌∙◌, length-set, lt-ltb, le-ltb}
 use Rattle.std.proofs.Math.Nat.{mod-lt, mod-add-mod, add-mod-mod}

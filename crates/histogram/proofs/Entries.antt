@@ -15,7 +15,7 @@ use Rattle.table.specs.GreatestDelay.{greatest_delay}
 use Rattle.figures.specs.ByAnchors.{segments}
 use Rattle.histogram.specs.Histogram.{entry_of}
 use Rattle.histogram.proofs.Counting.{count_at_least, count_most, count_same, add_at_least, from_anchors, entry_difference}
-use Rattle.histogram.specs.Differences.{modulus, with_anchor, up_to}
+use Rattle.histogram.specs.Differences.{modulus, up_to}
 use Rattle.histogram.proofs.Differences.{front_anchors}
 use Rattle.histogram.specs.Entries.{widest, differences}
 

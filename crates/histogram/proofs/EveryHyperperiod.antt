@@ -1,9 +1,10 @@
 -- "of one hyperperiod": it does not matter which. What the call gives for a well-formed table are the counts of the delays of the H ticks from any tick on that is not before first start;
 -- and of any figure that has the table's delays, as the walk has.
-use Rattle.std.specs.Prelude.{◌≡◌, ℕ, ◌+◌, ◌-◌, ◌*◌, ◌<◌, ◌≤◌, Bool, List, length, slice_index}
+use Rattle.std.specs.Prelude.{◌≡◌, ℕ, ◌+◌, ◌-◌, ◌*◌, ◌<◌, ◌≤◌, Bool, List, length, slice_index, Ok, Result}
 use Rattle.std.proofs.Common.{arith, sym, ◌∙◌}
 use Rattle.std.proofs.Math.Path.{ap}
 use borrow.Author.Tests.{lt-ltb}
+use Rattle.refusal.specs.declared.Refusal.{Refusal}
 use Rattle.ranges.specs.Entries.{entries, sum, entries_length, entries_same}
 use Rattle.table.specs.Anchors.{Anchor, anchors, first_start}
 use Rattle.table.specs.WellFormed.{WellFormed}
@@ -12,8 +13,6 @@ use Rattle.table.specs.Segments.{Formed, delay_again}
 use Rattle.table.specs.BothWays.{well_formed_iff, well_formed_laws}
 use Rattle.table.specs.EveryTable.{first_start_holds}
 use Rattle.figures.specs.Folding.{total_same, total_round}
-use Rattle.histogram.specs.declared.Histogram.{Histogram}
-use Rattle.histogram.specs.declared.Histogram.TheVariants.{Rest}
 use Rattle.histogram.specs.Histogram.{one, count, in_entry, beyond, entry_of, rest_of, histogram_of, counts_after, counts_of, Gives}
 use Rattle.histogram.proofs.Counting.{all_counted}
 
@@ -48,23 +47,23 @@ module _ (H : ℕ) (l : List Anchor) (formed : Formed H l) (delay : ℕ → ℕ)
       ∙ total_same (λ u. one (test (delay_at H l u))) (λ u. one (test (delay u))) H t t (λ i k. ap (λ (x : ℕ). one (test x)) (sym (same (t + i) (omega arith))))
 
 -- What the call answers of a well-formed table and a width from 1 on: it keeps the list's length, and counts the delays of H ticks, whichever from `first` on.
-pub record CountsDelays (delay : ℕ → ℕ) (first H width : ℕ) (old list : List ℕ) (r : Histogram) : Type 0 where
+pub record CountsDelays (delay : ℕ → ℕ) (first H width : ℕ) (old list : List ℕ) (r : Result ℕ Refusal) : Type 0 where
   pub rest : ℕ
-  pub answered : r ≡ Rest rest
+  pub answered : r ≡ Ok rest
   pub kept : length list ≡ length old
   pub counts : (t : ℕ) → first ≤ t → Counts delay t H width list rest
 
-module _ (s v : List ℕ) (g H width : ℕ) (old list : List ℕ) (r : Histogram) (gives : Gives s v g H width old list r) (w : WellFormed s v g H) (some : 1 ≤ width) where
+module _ (s v : List ℕ) (g H width : ℕ) (old list : List ℕ) (r : Result ℕ Refusal) (gives : Gives s v g H width old list r) (w : WellFormed s v g H) (some : 1 ≤ width) where
   abbrev l : List Anchor
   l = anchors s v g
 
-  found : histogram_of s v g H width (length old) ≡ Rest (rest_of width H l (length old))
+  found : histogram_of s v g H width (length old) ≡ Ok (rest_of width H l (length old))
   unfolding histogram_of
   found = rw ((well_formed_iff s v g H).1 w, lt-ltb 0 width some)
 
   written : list ≡ entries (entry_of width H l) 0 (length old)
   unfolding counts_of
-  written = gives.leaves ∙ ap (λ (x : Histogram). counts_after x (entries (entry_of width H l) 0 (length old)) old) found
+  written = gives.leaves ∙ ap (λ (x : Result ℕ Refusal). counts_after x (entries (entry_of width H l) 0 (length old)) old) found
 
   length_kept : length list ≡ length old
   length_kept = ap length written ∙ entries_length (entry_of width H l) 0 (length old)

@@ -1,5 +1,5 @@
 -- A loop that writes the entries of a list in order, from the first on: what each turn and the end show.
-use Rattle.std.proofs.Common.{◌≡◌, ℕ, zero, suc, ◌+◌, ◌%◌, ◌<◌, ◌≤◌, List, [], ◌∷◌, ◌++◌, length, get_or, take, drop, set, sym, refl, ap, ◌∙◌, append_assoc, append-nil, arith, length-set, drop_of_length-le, drop-cons}
+use Rattle.std.proofs.Common.{◌≡◌, ℕ, zero, suc, ◌+◌, ◌%◌, ◌<◌, ◌≤◌, List, [], ◌∷◌, ◌++◌, length, get_or, take, drop, set, sym, refl, ap, ◌∙◌, append_assoc, arith, length-set, drop-cons}
 use native.Mathlib.Nat.{mod-add-mod}
 use lib.Seq.{set_at, get_or_at}
 use Rattle.ranges.specs.Entries.{entries, sum, entries_length, entries_more, entries_sum}
@@ -40,11 +40,6 @@ module _ (f : ℕ → ℕ) (i : ℕ) (old counts : List ℕ) (w : Written f i ol
             ∙ ap (λ (r : List ℕ). r ++ drop (suc i) old) (sym (entries_more f 0 i))
             ∙ ap (λ (k : ℕ). entries f 0 k ++ drop k old) s;
       }
-
-  pub written_end : length counts ≤ i → counts ≡ entries f 0 (length old)
-  written_end h =
-      let e : i ≡ length old = omega (arith, w.within, w.same) in
-      w.holds ∙ ap (λ (r : List ℕ). entries f 0 i ++ r) (drop_of_length-le old {i = i} (omega (arith, w.same))) ∙ append-nil (entries f 0 i) ∙ ap (entries f 0) e
 
 -- ---- sums of differences
 
@@ -89,10 +84,3 @@ summed_more whole i old counts left entry s h entry' e left' d =
         let s : i + 1 ≡ suc i = omega arith in
         ap (λ (k : ℕ). sum (entries (λ j. up_to old j % modulus) 0 k)) s ∙ entries_sum (λ j. up_to old j % modulus) 0 i
         ∙ ap (λ (x : ℕ). sum (entries (λ j. up_to old j % modulus) 0 i) + x) (ap (λ (k : ℕ). up_to old k % modulus) z ∙ sym n)
-
-pub summed_end : (whole i : ℕ) (old counts : List ℕ) (left entry : ℕ) → Summed whole i old counts left entry → length counts ≤ i
-    → (counts ≡ entries (λ j. up_to old j % modulus) 0 (length old)) × ((left + sum counts) % modulus ≡ whole % modulus)
-summed_end whole i old counts left entry s h =
-    let e : i ≡ length old = omega (arith, s.written.within, s.written.same) in
-    let w = written_end _ i old counts s.written h in
-    (w, rw (w, ← e) s.leaves)

@@ -1,12 +1,14 @@
 -- What the calls answer, one law for each return.
+use Rattle.std.specs.Prelude.{ℕ, List, Ok, Err}
 use mathlib.Core.Path.{◌≡◌, sym, ap, ◌∙◌}
 use mathlib.Core.Bool.{Bool, true, false, cond}
 use borrow.Author.Tests.{eq-eqb, ne_eqb}
+use Rattle.refusal.specs.declared.Refusal.{Refusal}
 use Rattle.refusal.specs.Refusals.{none}
 use Rattle.bounded.specs.declared.Bounded.{Bounded}
 use Rattle.bounded.specs.Bounded.{cleared, same_bounded}
-use Rattle.promises.specs.declared.Judged.{Judged}
-use Rattle.promises.specs.Promises.{judged_of}
+use Rattle.promises.specs.Promises.{Judged, answered, refused_with, judged_of}
+use Rattle.promises.proofs.Answered.{judged_kept, judged_refused}
 use Rattle.instrument.specs.declared.State.{State}
 use Rattle.instrument.specs.declared.MadeState.{MadeState}
 use Rattle.instrument.specs.declared.Asked.{Asked}
@@ -15,36 +17,45 @@ use Rattle.instrument.specs.Instrument.{runs, proposes, zero_state, passes, make
 
 -- ---- making and asking: p is what is judged
 
-module _ (b p : Bounded) (is : p ≡ cleared b) (j : Judged) (judged : j ≡ judged_of p) where
+module _ (b p : Bounded) (is : p ≡ cleared b) where
   abbrev made : State → Judged → MadeState
   made x y = record { state = x; refusal = y.refusal }
 
   abbrev asked : State → Judged → Asked
   asked x y = record { state = x; refusal = y.refusal; latencies = y.latencies }
 
-  module _ (h : j.refusal.number ≡ 0 → ⊥) where
+  module _ (r : Refusal) (judged : Err r ≡ answered (judged_of p)) where
+    said : refused_with r ≡ judged_of p
+    said = sym (judged_refused p r judged).0
+
     fails : passes p ≡ false
-    fails = ne_eqb (judged_of p).refusal.number 0 (λ z. h (ap (λ (x : Judged). x.refusal.number) judged ∙ z))
+    fails = ne_eqb (judged_of p).refusal.number 0 (λ z. (judged_refused p r judged).1 (ap (λ (x : Judged). x.refusal.number) said ∙ z))
 
-    pub make_refused : (x : State) → x ≡ zero_state → made x j ≡ make_of (cleared b)
+    pub make_refused : (x : State) → x ≡ zero_state → made x (refused_with r) ≡ make_of (cleared b)
     unfolding make_of
-    make_refused x e = ap (λ (s : State). made s j) e ∙ ap (made zero_state) judged ∙ ap (λ (t : Bool). made (cond t (runs p) zero_state) (judged_of p)) (sym fails) ∙ ap make_of is
+    make_refused x e = ap (λ (s : State). made s (refused_with r)) e ∙ ap (made zero_state) said ∙ ap (λ (t : Bool). made (cond t (runs p) zero_state) (judged_of p)) (sym fails) ∙ ap make_of is
 
-    pub ask_refused : (s : State) → asked s j ≡ ask_of s (cleared b)
+    pub ask_refused : (s : State) → asked s (refused_with r) ≡ ask_of s (cleared b)
     unfolding ask_of
-    ask_refused s = ap (asked s) judged ∙ ap (λ (t : Bool). asked (cond t (proposes s p) s) (judged_of p)) (sym fails) ∙ ap (ask_of s) is
+    ask_refused s = ap (asked s) said ∙ ap (λ (t : Bool). asked (cond t (proposes s p) s) (judged_of p)) (sym fails) ∙ ap (ask_of s) is
 
-  module _ (h : j.refusal.number ≡ 0) where
+  module _ (l : List ℕ) (judged : Ok l ≡ answered (judged_of p)) where
+    abbrev kept : Judged
+    kept = record { refusal = none; latencies = l }
+
+    told : kept ≡ judged_of p
+    told = sym (judged_kept p l judged)
+
     passed : passes p ≡ true
-    passed = eq-eqb (judged_of p).refusal.number 0 (ap (λ (x : Judged). x.refusal.number) (sym judged) ∙ h)
+    passed = eq-eqb (judged_of p).refusal.number 0 (ap (λ (x : Judged). x.refusal.number) (sym told))
 
-    pub make_taken : (x : State) → x ≡ runs p → made x j ≡ make_of (cleared b)
+    pub make_taken : (x : State) → x ≡ runs p → made x kept ≡ make_of (cleared b)
     unfolding make_of
-    make_taken x e = ap (λ (s : State). made s j) e ∙ ap (made (runs p)) judged ∙ ap (λ (t : Bool). made (cond t (runs p) zero_state) (judged_of p)) (sym passed) ∙ ap make_of is
+    make_taken x e = ap (λ (s : State). made s kept) e ∙ ap (made (runs p)) told ∙ ap (λ (t : Bool). made (cond t (runs p) zero_state) (judged_of p)) (sym passed) ∙ ap make_of is
 
-    pub ask_taken : (s x : State) → x ≡ proposes s p → asked x j ≡ ask_of s (cleared b)
+    pub ask_taken : (s x : State) → x ≡ proposes s p → asked x kept ≡ ask_of s (cleared b)
     unfolding ask_of
-    ask_taken s x e = ap (λ (y : State). asked y j) e ∙ ap (asked (proposes s p)) judged ∙ ap (λ (t : Bool). asked (cond t (proposes s p) s) (judged_of p)) (sym passed) ∙ ap (ask_of s) is
+    ask_taken s x e = ap (λ (y : State). asked y kept) e ∙ ap (asked (proposes s p)) told ∙ ap (λ (t : Bool). asked (cond t (proposes s p) s) (judged_of p)) (sym passed) ∙ ap (ask_of s) is
 
 -- ---- committing
 

@@ -8,8 +8,7 @@ ghost use Rattle.bounded.specs.Bounded.{cleared};
 ghost use Rattle.instrument.specs.Instrument.{no_proposal, runs, proposes, zero_state, make_of, ask_of, commit_of, commit_refused};
 
 use bounded::Bounded;
-use promises::Judged;
-use refusal::Refusal;
+use refusal::{Reason, Refusal};
 
 // A party's proposal, zeros where none stands, and whether one stands: 0 means no, every other number yes.
 #[repr(C)]
@@ -96,17 +95,15 @@ pub fn make_state(b: Bounded) -> MadeState
     ensures { result ≡ make_of (cleared b) }
 {
     let p = bounded::cleared_of(b);
-    let j = promises::judge(p);
-    let r = j.refusal;
-    if r.number != 0 {
-        return MadeState {
+    match promises::judge(p) {
+        Ok(_) => MadeState {
+            state: running_state(p),
+            refusal: Refusal::NONE,
+        },
+        Err(refusal) => MadeState {
             state: zero_state(),
-            refusal: r,
-        };
-    }
-    MadeState {
-        state: running_state(p),
-        refusal: r,
+            refusal,
+        },
     }
 }
 
@@ -115,20 +112,17 @@ pub fn ask(s: State, b: Bounded) -> Asked
     ensures { result ≡ ask_of s (cleared b) }
 {
     let p = bounded::cleared_of(b);
-    let j = promises::judge(p);
-    let r = j.refusal;
-    let latencies = j.latencies;
-    if r.number != 0 {
-        return Asked {
-            state: s,
-            refusal: r,
+    match promises::judge(p) {
+        Ok(latencies) => Asked {
+            state: proposed(s, p),
+            refusal: Refusal::NONE,
             latencies,
-        };
-    }
-    Asked {
-        state: proposed(s, p),
-        refusal: r,
-        latencies,
+        },
+        Err(refusal) => Asked {
+            state: s,
+            refusal,
+            latencies: [0; 4],
+        },
     }
 }
 
@@ -147,18 +141,15 @@ pub fn commit(s: State, b: Bounded) -> Committed
 {
     let mine = s.firmware;
     if mine.stands == 0 {
-        return commit_refused(s, 22);
+        return commit_refused(s, Reason::NoProposal as u64);
     }
     let p = bounded::cleared_of(b);
     let kept = mine.proposal;
     if bounded::same(p, kept) {
         return Committed {
             state: running_state(p),
-            refusal: Refusal {
-                number: 0,
-                place: 0,
-            },
+            refusal: Refusal::NONE,
         };
     }
-    commit_refused(s, 23)
+    commit_refused(s, Reason::OtherProposal as u64)
 }

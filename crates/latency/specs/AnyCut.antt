@@ -3,11 +3,10 @@ use Prim.Native.Nat.{ℕ, zero, suc, ◌+◌, ◌-◌, ◌/◌, ◌≤◌, ◌<�
 use native.Mathlib.Omega.{arith}
 use Rattle.std.proofs.Common.{add-one, zero-add}
 use Rattle.std.proofs.Math.Decide.{dec_lt}
-use Rattle.std.specs.Prelude.{◌≡◌, Bool, true, false, not, eqb, length}
+use Rattle.std.specs.Prelude.{◌≡◌, Bool, true, false, not, eqb, length, Some}
 use Rattle.std.proofs.Math.Path.{ap}
 use mathlib.Core.List.{List, map}
 use Rattle.task.specs.declared.Place.{Place}
-use Rattle.task.specs.declared.Latest.TheVariants.{Of}
 use Rattle.task.specs.Jobs.{read_of}
 use Rattle.task.proofs.LinkLaws.{AtLeast, read_mono}
 use Rattle.chain.specs.Chains.{at, last_place, forward_by, backward_by, walk}
@@ -88,14 +87,14 @@ module _ (l : List Place) (ok : Sound l) (p : ℕ) (h : p < length l) where
     warm : warm_at l 0 ≤ j
     warm =
         let a : AtLeast (backward_by l 0 p (warm_at l p)) (warm_at l 0) = rw (warm_way l ok p h) (omega arith) in
-        let b : AtLeast (Of there.job) (warm_at l 0) = rw there.is at (backward_mono l 0 p head (warm_at l p) m (warm_at l 0) from a) in
+        let b : AtLeast (Some there.job) (warm_at l 0) = rw there.is at (backward_mono l 0 p head (warm_at l p) m (warm_at l 0) from a) in
         b
 
     -- the next job of the first place comes past m
     past : m < forward_by l 0 p (suc j)
     past = elim (dec_lt m (forward_by l 0 p (suc j))) [
       | yes g ↦ g
-      | no g ↦ let a : AtLeast (Of there.job) (suc j) = rw there.is at ((galois l 0 p head (suc j) m).0 (omega arith)) in absurd (omega arith)
+      | no g ↦ let a : AtLeast (Some there.job) (suc j) = rw there.is at ((galois l 0 p head (suc j) m).0 (omega arith)) in absurd (omega arith)
     ]
 
     end_early : end_of l p m ≤ end_walk l (suc j)

@@ -3,7 +3,7 @@
 // the place p from 0.
 #![tactic(auto)]
 
-ghost use Rattle.std.specs.Prelude.{◌≡◌, length, ◌-◌, ◌≤◌, ◌<◌, max};
+ghost use Rattle.std.specs.Prelude.{◌≡◌, length, ◌-◌, ◌≤◌, ◌<◌};
 ghost use Rattle.chain.specs.Checks.{Sound};
 ghost use Rattle.chain.specs.Hyperperiod.{hyper_of};
 ghost use Rattle.chain.specs.Flat.{tasks_in};
@@ -28,26 +28,16 @@ pub fn longest_place(tasks: &[u64], gap: u64) -> usize
     requires { length (tasks_in gap tasks.now) ≤ 12 }
     ensures { result ≡ longest_place (tasks_in gap tasks.now) }
 {
-    let n = tasks.len() / 3;
-    let mut longest: u64 = 0;
-    let mut place: usize = 1;
-    let mut i: usize = 0;
-    while i < n {
+    let mut longest = 0;
+    let mut place = 1;
+    for i in 0..tasks.len() / 3 {
         let t = chain::task_at(tasks, gap, i);
-        i += 1;
         if longest < t.period {
             longest = t.period;
-            place = i;
+            place = i + 1;
         }
     }
     place
-}
-
-// The larger one of two numbers.
-fn larger(a: u64, b: u64) -> u64
-    ensures { result ≡ max a b }
-{
-    if a < b { b } else { a }
 }
 
 // A partition's latency, end less start.
@@ -75,17 +65,15 @@ fn walk(
     requires { (Begins (tasks_in gap tasks.now) places p n first state.old) × Reciprocals (tasks_in gap tasks.now) reciprocals.now }
     ensures { Met (tasks_in gap tasks.now) p first.job.0 n bound result }
 {
-    let mut walked: u64 = 1;
     let mut latency = latency_of(first);
-    while walked < n {
+    for walked in 1..n {
         if bound < latency {
             return Greatest { latency, walked };
         }
         let here = stepping::next(tasks, gap, places, p, reciprocals, state);
-        latency = larger(latency, latency_of(here));
-        walked += 1;
+        latency = latency.max(latency_of(here));
     }
-    Greatest { latency, walked }
+    Greatest { latency, walked: n }
 }
 
 // The same, with what stands for the divisions of the steps made first.

@@ -1,21 +1,21 @@
 -- Laws of making from a lent list: its chain's tasks are the list, making from it is making from the chain by value, and a list of no record or of more than twelve is refused with 8.
-use Rattle.std.specs.Prelude.{ℕ, ◌≤◌, ◌<◌, ◌≡◌, List, [], ◌∷◌, length, take}
+use Rattle.std.specs.Prelude.{ℕ, ◌≤◌, ◌<◌, ◌≡◌, List, [], ◌∷◌, length, take, Err, Ok, Result}
 use Rattle.std.proofs.Common.{arith, ◌∙◌, take_all, le-leb}
 use Rattle.std.proofs.Math.Decide.{dec_le}
 use Rattle.std.proofs.Math.Path.{refl, ap}
 use Rattle.std.proofs.lemmas.Bool.{lt-leb}
+use Rattle.maker.specs.declared.Unmade.TheVariants.{Refused}
+use Rattle.refusal.specs.declared.Refusal.{Refusal}
+use Rattle.maker.specs.declared.Unmade.{Unmade}
+use Rattle.maker.specs.declared.Figures.{Figures}
 use Rattle.refusal.specs.Refusals.{refusal}
 use Rattle.task.specs.declared.Task.{Task}
 use Rattle.chain.specs.declared.Chain.{Chain}
-use Rattle.chain.specs.declared.Verdict.{Verdict}
-use Rattle.chain.specs.declared.Verdict.TheVariants as verdict
 use Rattle.chain.specs.Chains.{zero_task, given_of, placed, tasks_of}
 use Rattle.chain.specs.Checks.{verdict_for, verdict_of}
 use Rattle.schedule.specs.Schedules.{padded}
 use Rattle.schedule.specs.Padding.{take_padded}
 use Rattle.table.specs.Anchors.{Anchor}
-use Rattle.maker.specs.declared.Made.{Made}
-use Rattle.maker.specs.declared.Made.TheVariants.{Refused}
 use Rattle.maker.specs.Making.{after_checks, judged, made_after, made_of, written_after, written_of, told_after, starts_of, latencies_of, overlay, Makes}
 use Rattle.lent_chain.specs.LentList.{chain_of_list}
 
@@ -32,7 +32,7 @@ places_of_list g ts = refl
 
 -- ---- every other list is refused with 8, and the lists keep their content
 
-pub other_verdict : (g : ℕ) (ts : List Task) → (1 ≤ length ts → length ts ≤ 12 → ⊥) → verdict_of (chain_of_list g ts) ≡ verdict.Refused (refusal 8 0)
+pub other_verdict : (g : ℕ) (ts : List Task) → (1 ≤ length ts → length ts ≤ 12 → ⊥) → verdict_of (chain_of_list g ts) ≡ Err (refusal 8 0)
 unfolding chain_of_list verdict_for
 other_verdict g [] h = refl
 other_verdict g (t ∷ ts) h =
@@ -42,7 +42,7 @@ other_verdict g (t ∷ ts) h =
     ] in
     rw (le-leb 1 (length (t ∷ ts)) (omega arith), lt-leb (length (t ∷ ts)) 12 many)
 
-pub other_refused : (g : ℕ) (ts : List Task) → (1 ≤ length ts → length ts ≤ 12 → ⊥) → (p a b : ℕ) → made_of (chain_of_list g ts) p a b ≡ Refused (refusal 8 0)
+pub other_refused : (g : ℕ) (ts : List Task) → (1 ≤ length ts → length ts ≤ 12 → ⊥) → (p a b : ℕ) → made_of (chain_of_list g ts) p a b ≡ Err (Refused (refusal 8 0))
 unfolding judged made_after
 other_refused g ts h p a b = rw (other_verdict g ts h)
 
@@ -62,24 +62,24 @@ module _ (c d : Chain) (given : given_of c ≡ given_of d) (places : c.places �
 
   same_judged : (p a b : ℕ) → judged c p a b ≡ judged d p a b
   unfolding judged
-  same_judged p a b = ap (λ (v : Verdict). after_checks v c.places p a b) same_verdict ∙ ap (λ (n : ℕ). after_checks (verdict_of d) n p a b) places
+  same_judged p a b = ap (λ (v : Result ℕ Refusal). after_checks v c.places p a b) same_verdict ∙ ap (λ (n : ℕ). after_checks (verdict_of d) n p a b) places
 
-  same_made : (p a : ℕ) (v : Verdict) → made_after c p a v ≡ made_after d p a v
+  same_made : (p a : ℕ) (v : Result ℕ Refusal) → made_after c p a v ≡ made_after d p a v
   unfolding made_after
-  same_made p a (verdict.Refused r) = refl
-  same_made p a (verdict.Accepted h) = rw same
+  same_made p a (Err r) = refl
+  same_made p a (Ok h) = rw same
 
-  same_told : (p a : ℕ) (v : Verdict) → told_after c p a v ≡ told_after d p a v
+  same_told : (p a : ℕ) (v : Result ℕ Refusal) → told_after c p a v ≡ told_after d p a v
   unfolding told_after
-  same_told p a (verdict.Refused r) = refl
-  same_told p a (verdict.Accepted h) = rw same
+  same_told p a (Err r) = refl
+  same_told p a (Ok h) = rw same
 
-  same_written : (p : ℕ) (v : Verdict) → written_after c p v ≡ written_after d p v
+  same_written : (p : ℕ) (v : Result ℕ Refusal) → written_after c p v ≡ written_after d p v
   unfolding written_after
-  same_written p (verdict.Refused r) = refl
-  same_written p (verdict.Accepted h) = rw same
+  same_written p (Err r) = refl
+  same_written p (Ok h) = rw same
 
-  pub same_making : (p : ℕ) (s l s' l' : List ℕ) (r : Made) → Makes c p s l s' l' r → Makes d p s l s' l' r
+  pub same_making : (p : ℕ) (s l s' l' : List ℕ) (r : Result Figures Unmade) → Makes c p s l s' l' r → Makes d p s l s' l' r
   same_making p s l s' l' r m =
       let j = same_judged p (length s) (length l) in
       let w : written_of c p (length s) (length l) ≡ written_of d p (length s) (length l) = same_written p (judged c p (length s) (length l)) ∙ ap (written_after d p) j in
@@ -91,6 +91,6 @@ module _ (c d : Chain) (given : given_of c ≡ given_of d) (places : c.places �
       }
 
 -- So what is made from a chain's tasks, lent as a list, is what is made from the chain.
-pub lent_as_value : (c : Chain) → length (given_of c) ≡ c.places → c.places ≤ 12 → (p : ℕ) (s l s' l' : List ℕ) (r : Made) → Makes (chain_of_list c.gap (given_of c)) p s l s' l' r → Makes c p s l s' l' r
+pub lent_as_value : (c : Chain) → length (given_of c) ≡ c.places → c.places ≤ 12 → (p : ℕ) (s l s' l' : List ℕ) (r : Result Figures Unmade) → Makes (chain_of_list c.gap (given_of c)) p s l s' l' r → Makes c p s l s' l' r
 unfolding chain_of_list
 lent_as_value c e h = same_making (chain_of_list c.gap (given_of c)) c (list_is_chain c.gap (given_of c) (omega arith)) (places_of_list c.gap (given_of c) ∙ e) refl

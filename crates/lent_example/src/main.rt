@@ -5,11 +5,17 @@ ghost use Rattle.std.specs.Prelude.{◌≡◌, [], ◌∷◌};
 ghost use Rattle.maker.specs.Making.{told, Makes};
 ghost use Rattle.lent_chain.specs.LentList.{chain_of_list};
 
-use maker::Made;
+use maker::{Figures, Unmade};
 use task::Task;
 
 // Lends two tasks as a list, without a gap.
-fn made_of(a: Task, b: Task, p: usize, starts: &mut [u64], latencies: &mut [u64]) -> Made
+fn made_of(
+    a: Task,
+    b: Task,
+    p: usize,
+    starts: &mut [u64],
+    latencies: &mut [u64],
+) -> Result<Figures, Unmade>
     ensures { Makes (chain_of_list 0 (a ∷ b ∷ [])) p starts.old latencies.old starts.new latencies.new result }
 {
     let tasks = [a, b];
@@ -17,13 +23,13 @@ fn made_of(a: Task, b: Task, p: usize, starts: &mut [u64], latencies: &mut [u64]
 }
 
 // The number of partitions walked; 0 in a refusal.
-fn walked_of(m: Made) -> u64
+fn walked_of(m: Result<Figures, Unmade>) -> u64
     ensures { result ≡ (told m).walked }
 {
     match m {
-        Made::Whole(f) => f.walked,
-        Made::Short(f) => f.walked,
-        Made::Refused(_) => 0,
+        Ok(f) => f.walked,
+        Err(Unmade::Short(f)) => f.walked,
+        Err(Unmade::Refused(_)) => 0,
     }
 }
 

@@ -1,45 +1,18 @@
 -- What the returns of this crate's functions show.
-use Rattle.std.proofs.Common.{◌≡◌, ℕ, zero, suc, ◌+◌, ◌%◌, ◌<◌, ◌≤◌, List, [], ◌∷◌, ◌++◌, set, replicate, sym, refl, ap, ◌∙◌, arith, eq-eqb, ne_eqb, le-leb}
-use borrow.Author.Tests.{lt-leb}
-use Rattle.refusal.specs.Refusals.{refusal, none}
+use Rattle.std.specs.Prelude.{Ok, Err, Result}
+use Rattle.std.proofs.Common.{◌≡◌, ℕ, zero, suc, Bool, true, false, cond, ◌&&◌, nat_le, ◌+◌, ◌%◌, ◌<◌, ◌≤◌, List, [], ◌∷◌, ◌++◌, set, replicate, sym, refl, ap, ◌∙◌, arith}
+use borrow.Author.Tests.{leb-true}
+use Rattle.refusal.specs.declared.Refusal.{Refusal}
+use Rattle.refusal.specs.Refusals.{refusal}
 use Rattle.task.specs.declared.Task.{Task}
+use Rattle.chain.specs.declared.Chain.{Chain}
 use Rattle.chain.specs.Chains.{zero_task}
 use Rattle.schedule.specs.Schedules.{padded}
 use Rattle.schedule.specs.Padding.{padded_set}
 use Rattle.load.specs.declared.Draw.{Draw}
 use Rattle.load.specs.declared.DrawnTask.{DrawnTask}
-use Rattle.load.specs.declared.Load.{Load}
-use Rattle.load.specs.Load.{step_of, mix_of, draw_of, period_of, drawn_task, tasks_from, array_from, no_load, load_of}
+use Rattle.load.specs.Load.{draw_of, period_of, drawn_task, tasks_from, array_from, loaded, load_of}
 use Rattle.load.proofs.Passes.{fit, tasks_length, made}
-
-pub drawn : (s t : ℕ) → t ≡ step_of s → ◌≡◌ {A = Draw} (record { state = t; value = mix_of t }) (draw_of s)
-unfolding draw_of
-drawn s t e = ap (λ (x : ℕ). record { state = x; value = mix_of x }) e
-
-module _ (x : ℕ) where
-  pub first : x ≡ 0 → 2500 ≡ period_of x
-  unfolding period_of
-  first h = rw (eq-eqb x 0 h)
-
-  pub second : 0 < x → x ≤ 10 → 5000 ≡ period_of x
-  unfolding period_of
-  second g h = rw (ne_eqb x 0 (λ e. omega arith), le-leb x 10 h)
-
-  pub third : 10 < x → x ≤ 43 → 10000 ≡ period_of x
-  unfolding period_of
-  third g h = rw (ne_eqb x 0 (λ e. omega arith), lt-leb x 10 g, le-leb x 43 h)
-
-  pub fourth : 43 < x → x ≤ 58 → 20000 ≡ period_of x
-  unfolding period_of
-  fourth g h = rw (ne_eqb x 0 (λ e. omega arith), lt-leb x 10 (omega arith), lt-leb x 43 g, le-leb x 58 h)
-
-  pub fifth : 58 < x → x ≤ 81 → 40000 ≡ period_of x
-  unfolding period_of
-  fifth g h = rw (ne_eqb x 0 (λ e. omega arith), lt-leb x 10 (omega arith), lt-leb x 43 (omega arith), lt-leb x 58 g, le-leb x 81 h)
-
-  pub sixth : 81 < x → 80000 ≡ period_of x
-  unfolding period_of
-  sixth g = rw (ne_eqb x 0 (λ e. omega arith), lt-leb x 10 (omega arith), lt-leb x 43 (omega arith), lt-leb x 58 (omega arith), lt-leb x 81 g)
 
 pub some_period : (x p : ℕ) → p ≡ period_of x → 0 < p
 some_period x p e = omega (arith, (fit x).low)
@@ -92,16 +65,14 @@ tasks_on s i t p l h e f g =
 
 -- ---- the returns
 
-abbrev pub refused_with : List Task → Load
-refused_with l = record { refusal = refusal 8 0; chain = record { tasks = l; places = 0; gap = 0 } }
-
-pub too_few : (s n : ℕ) → n < 1 → no_load ≡ load_of s n
+pub wrong_places : (s n : ℕ) → (1 ≤ n → 12 < n) → Err (refusal 8 0) ≡ load_of s n
 unfolding load_of
-too_few s n h = rw (lt-leb 1 n h)
+wrong_places s n h = go (nat_le 1 n) (nat_le n 12) refl refl
+  where
+    go : (a b : Bool) → nat_le 1 n ≡ a → nat_le n 12 ≡ b → ◌≡◌ {A = Result Chain Refusal} (Err (refusal 8 0)) (cond (a && b) (Ok (loaded s n)) (Err (refusal 8 0)))
+    go true true e f = absurd (omega (arith, h (leb-true 1 n e), leb-true n 12 f))
+    go true false e f = refl
+    go false b e f = refl
 
-pub too_many : (s n : ℕ) → 1 ≤ n → 12 < n → no_load ≡ load_of s n
-unfolding load_of
-too_many s n g h = rw (le-leb 1 n g, lt-leb n 12 h)
-
-pub of_tasks : (s n : ℕ) (l : List Task) → 1 ≤ n → n ≤ 12 → l ≡ array_from s n → ◌≡◌ {A = Load} (record { refusal = none; chain = record { tasks = l; places = n; gap = 0 } }) (load_of s n)
-of_tasks s n l g h e = ap (λ (x : List Task). record { refusal = none; chain = record { tasks = x; places = n; gap = 0 } }) e ∙ sym (made s n g h)
+pub of_tasks : (s n : ℕ) (l : List Task) → 1 ≤ n → n ≤ 12 → l ≡ array_from s n → ◌≡◌ {A = Result Chain Refusal} (Ok (record { tasks = l; places = n; gap = 0 })) (load_of s n)
+of_tasks s n l g h e = ap (λ (x : List Task). Ok (record { tasks = x; places = n; gap = 0 })) e ∙ sym (made s n g h)

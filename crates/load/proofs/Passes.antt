@@ -1,27 +1,25 @@
 -- Order 8 of document 02: "Every chain so made passes the chain checks, for all seeds": 8, 5 with its gap, and 7 (`passes`). Each period divides 80,000, so the hyperperiod does (`hyper_divides`);
 -- of two periods one divides the other, so it is the longest of them (`hyper_longest`). What that makes of a table is in load_report.
-use Rattle.std.specs.Prelude.{◌≡◌, ℕ, zero, suc, ◌+◌, ◌-◌, ◌*◌, ◌%◌, ◌^◌, ◌<◌, ◌≤◌, Bool, true, false, cond, ◌&&◌, List, ◌∷◌, length, take, ◌==◌, nat_le, refl}
+use Rattle.std.specs.Prelude.{◌≡◌, ℕ, zero, suc, ◌+◌, ◌-◌, ◌*◌, ◌%◌, ◌^◌, ◌<◌, ◌≤◌, Bool, true, false, cond, ◌&&◌, List, ◌∷◌, length, take, ◌==◌, nat_le, refl, Ok, Err}
 use Rattle.std.specs.Int.{◌∣◌}
 use Rattle.std.proofs.Common.{arith, mod-lt, sym, ap, ◌∙◌, pow-add}
 use Rattle.std.proofs.Math.Decide.{dec_lt}
 use Rattle.std.proofs.Math.Nat.{dvd_of_mod-eq-zero, le_of_dvd, dvd-mul_right, dvd_antisymm}
 use Rattle.std.proofs.lemmas.List.{length-map}
-use borrow.Author.Tests.{le-leb, leb-true}
+use borrow.Author.Tests.{le-leb, leb-true, leb-false}
 use Rattle.refusal.specs.declared.Refusal.{Refusal}
-use Rattle.refusal.specs.Refusals.{refusal, none}
+use Rattle.refusal.specs.Refusals.{refusal}
 use Rattle.task.specs.declared.Task.{Task}
 use Rattle.task.specs.declared.Place.{Place}
 use Rattle.task.specs.Jobs.{place_of, Within}
 use Rattle.task.proofs.LinkLaws.{limits_hold}
 use Rattle.chain.specs.declared.Chain.{Chain}
-use Rattle.chain.specs.declared.Verdict.TheVariants.{Accepted}
 use Rattle.chain.specs.Chains.{given_of, placed, tasks_of, at, zero_task}
 use Rattle.chain.specs.Checks.{first_fault, hyper_verdict, after_gap, verdict_for, verdict_of}
 use Rattle.chain.specs.Hyperperiod.{hyper_of}
 use Rattle.chain.specs.Multiples.{hyper_multiple, hyper_least}
 use Rattle.schedule.specs.Padding.{take_padded, length_padded}
-use Rattle.load.specs.declared.Load.{Load}
-use Rattle.load.specs.Load.{draw_of, period_of, drawn_period, task_of, drawn_task, tasks_from, array_from, loaded, no_load, load_of}
+use Rattle.load.specs.Load.{draw_of, period_of, drawn_period, task_of, drawn_task, tasks_from, array_from, loaded, load_of}
 
 -- ---- one period
 
@@ -119,64 +117,61 @@ module _ (n s : ℕ) where
   longest q h all =
       dvd_antisymm (hyper_least l (at l q).period (λ p k. (at_place p k).low) (λ p k. shorter (at l p).period (at l q).period (at_place p k) (at_place q h) (all p k))) (hyper_multiple l q h)
 
-  verdict : 1 ≤ n → n ≤ 12 → verdict_for n 0 (tasks_from s n) ≡ Accepted (hyper_of l)
+  verdict : 1 ≤ n → n ≤ 12 → verdict_for n 0 (tasks_from s n) ≡ Ok (hyper_of l)
   unfolding verdict_for hyper_verdict after_gap
   verdict low high =
       rw (le-leb 1 n low, le-leb n 12 high, no_fault n s 1, le-leb (hyper_of l) 60000000 (omega (arith, le_of_dvd (omega arith) divides)))
 
 -- ---- the chain
 
--- A load is refused with 8 at place 0 for places outside 1 to 12, and else not at all;
-pub refused_with_holds : (seed places : ℕ) → (load_of seed places).refusal ≡ cond (nat_le 1 places && nat_le places 12) none (refusal 8 0)
-unfolding load_of
-refused_with_holds seed places = go (nat_le 1 places && nat_le places 12)
-  where
-    go : (b : Bool) → (cond b (loaded seed places) no_load).refusal ≡ cond b none (refusal 8 0)
-    go true = refl
-    go false = refl
+module _ (seed places : ℕ) where
+  -- A load is refused with 8 at place 0, and for places outside 1 to 12 alone;
+  pub refused_with_holds : (r : Refusal) → Err r ≡ load_of seed places → (r ≡ refusal 8 0) × ((1 ≤ places) × (places ≤ 12) → ⊥)
+  unfolding load_of
+  refused_with_holds r h = go (nat_le 1 places) (nat_le places 12) refl refl h
+    where
+      go : (a b : Bool) → nat_le 1 places ≡ a → nat_le places 12 ≡ b → Err r ≡ cond (a && b) (Ok (loaded seed places)) (Err (refusal 8 0)) → (r ≡ refusal 8 0) × ((1 ≤ places) × (places ≤ 12) → ⊥)
+      go true true e f h = absurd cc
+      go true false e f h = let i : r ≡ refusal 8 0 = cc in (i, λ k. omega (arith, leb-false places 12 f))
+      go false b e f h = let i : r ≡ refusal 8 0 = cc in (i, λ k. omega (arith, leb-false 1 places e))
 
--- so one that is not refused has 1 to 12 places.
-pub not_refused : (seed places : ℕ) → (load_of seed places).refusal.number ≡ 0 → (1 ≤ places) × (places ≤ 12)
-not_refused seed places h = go (nat_le 1 places) (nat_le places 12) refl refl (ap (λ (r : Refusal). r.number) (sym (refused_with_holds seed places)) ∙ h)
-  where
-    go : (a b : Bool) → nat_le 1 places ≡ a → nat_le places 12 ≡ b → (cond (a && b) none (refusal 8 0)).number ≡ 0 → (1 ≤ places) × (places ≤ 12)
-    go true true e f h = (leb-true 1 places e, leb-true places 12 f)
-    go true false e f h = absurd (omega arith)
-    go false b e f h = absurd (omega arith)
+  -- so of any load the refusal fits one number.
+  pub small_refusal : (r : Refusal) → Err r ≡ load_of seed places → (r.number < 256) × (r.place ≤ 1000000000)
+  small_refusal r h = rw ((refused_with_holds r h).0) (omega arith, omega arith)
 
--- and of any load the refusal fits one number.
-pub small_refusal : (seed places : ℕ) (m : Load) → m ≡ load_of seed places → (m.refusal.number < 256) × (m.refusal.place ≤ 1000000000)
-small_refusal seed places m e = rw (e, refused_with_holds seed places) (go (nat_le 1 places && nat_le places 12))
-  where
-    go : (b : Bool) → ((cond b none (refusal 8 0)).number < 256) × ((cond b none (refusal 8 0)).place ≤ 1000000000)
-    go true = (omega arith, omega arith)
-    go false = (omega arith, omega arith)
+  -- One that is not refused has 1 to 12 places, and is the chain of those draws.
+  pub not_refused : (c : Chain) → Ok c ≡ load_of seed places → (1 ≤ places) × (places ≤ 12) × (c ≡ loaded seed places)
+  unfolding load_of
+  not_refused c h = go (nat_le 1 places) (nat_le places 12) refl refl h
+    where
+      go : (a b : Bool) → nat_le 1 places ≡ a → nat_le places 12 ≡ b → Ok c ≡ cond (a && b) (Ok (loaded seed places)) (Err (refusal 8 0)) → (1 ≤ places) × (places ≤ 12) × (c ≡ loaded seed places)
+      go true true e f h = let i : c ≡ loaded seed places = cc in (leb-true 1 places e, leb-true places 12 f, i)
+      go true false e f h = absurd cc
+      go false b e f h = absurd cc
 
 module _ (seed places : ℕ) (low : 1 ≤ places) (high : places ≤ 12) where
   abbrev c : Chain
-  c = (load_of seed places).chain
+  c = loaded seed places
 
-  -- 8 does not come, and
-  pub made : load_of seed places ≡ loaded seed places
+  -- 8 does not come: a chain is made, and
+  pub made : load_of seed places ≡ Ok c
   unfolding load_of
   made = rw (le-leb 1 places low, le-leb places 12 high)
 
   -- the tasks at the places are those of the draws.
   pub given : given_of c ≡ tasks_from seed places
-  given =
-      ap (λ (m : Load). given_of m.chain) made
-      ∙ ap (λ (n : ℕ). take n (array_from seed places)) (sym (tasks_length places seed)) ∙ take_padded zero_task 12 (tasks_from seed places) (omega (arith, tasks_length places seed))
+  given = ap (λ (n : ℕ). take n (array_from seed places)) (sym (tasks_length places seed)) ∙ take_padded zero_task 12 (tasks_from seed places) (omega (arith, tasks_length places seed))
 
   -- Its array has twelve tasks.
   pub twelve_tasks : length c.tasks ≡ 12
-  twelve_tasks = ap (λ (m : Load). length m.chain.tasks) made ∙ length_padded zero_task 12 (tasks_from seed places) (omega (arith, tasks_length places seed))
+  twelve_tasks = length_padded zero_task 12 (tasks_from seed places) (omega (arith, tasks_length places seed))
 
   at_places : tasks_of c ≡ placed 0 (tasks_from seed places)
-  at_places = ap (λ (m : Load). placed m.chain.gap (given_of c)) made ∙ ap (placed 0) given
+  at_places = ap (placed 0) given
 
   -- Every chain so made passes the checks.
-  pub passes : verdict_of c ≡ Accepted (hyper_of (tasks_of c))
-  passes = ap (λ (m : Load). verdict_for m.chain.places m.chain.gap (given_of c)) made ∙ ap (verdict_for places 0) given ∙ verdict places seed low high ∙ ap (λ (l : List Place). Accepted (hyper_of l)) (sym at_places)
+  pub passes : verdict_of c ≡ Ok (hyper_of (tasks_of c))
+  passes = ap (verdict_for places 0) given ∙ verdict places seed low high ∙ ap (λ (l : List Place). Ok (hyper_of l)) (sym at_places)
 
   -- Its hyperperiod divides 80,000,
   pub hyper_divides : hyper_of (tasks_of c) ∣ 80000

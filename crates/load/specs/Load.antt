@@ -1,12 +1,13 @@
 -- Order 8 of document 02: the chain that a seed and a number of places make.
-use Rattle.std.specs.Prelude.{ℕ, zero, suc, ◌+◌, ◌/◌, ◌%◌, ◌^◌, cond, ◌&&◌, List, [], ◌∷◌, replicate, ◌==◌, bit_xor, nat_le}
-use Rattle.refusal.specs.Refusals.{refusal, none}
+use Rattle.std.specs.Prelude.{ℕ, zero, suc, ◌+◌, ◌/◌, ◌%◌, ◌^◌, cond, ◌&&◌, List, [], ◌∷◌, ◌==◌, bit_xor, nat_le, Ok, Err, Result}
+use Rattle.refusal.specs.declared.Refusal.{Refusal}
+use Rattle.refusal.specs.Refusals.{refusal}
 use Rattle.task.specs.declared.Task.{Task}
+use Rattle.chain.specs.declared.Chain.{Chain}
 use Rattle.chain.specs.Chains.{zero_task}
 use Rattle.schedule.specs.Schedules.{padded}
 use Rattle.load.specs.declared.Draw.{Draw}
 use Rattle.load.specs.declared.DrawnTask.{DrawnTask}
-use Rattle.load.specs.declared.Load.{Load}
 
 -- "Each draw sets s to s + 9E3779B97F4A7C15 (hexadecimal) modulo 2^64
 abbrev pub step_of : ℕ → ℕ
@@ -42,14 +43,10 @@ tasks_from s (suc n) = (drawn_task s).task ∷ tasks_from (drawn_task s).state n
 abbrev pub array_from : ℕ → ℕ → List Task
 array_from seed places = padded 12 zero_task (tasks_from seed places)
 
--- A refusal has zeros everywhere else.
-abbrev pub no_load : Load
-no_load = record { refusal = refusal 8 0; chain = record { tasks = replicate 12 zero_task; places = 0; gap = 0 } }
-
 -- "gap 0."
-abbrev pub loaded : ℕ → ℕ → Load
-loaded seed places = record { refusal = none; chain = record { tasks = array_from seed places; places = places; gap = 0 } }
+abbrev pub loaded : ℕ → ℕ → Chain
+loaded seed places = record { tasks = array_from seed places; places = places; gap = 0 }
 
 -- "Places outside 1 to 12 are 8."
-unfoldable pub load_of : ℕ → ℕ → Load
-load_of seed places = cond (nat_le 1 places && nat_le places 12) (loaded seed places) no_load
+unfoldable pub load_of : ℕ → ℕ → Result Chain Refusal
+load_of seed places = cond (nat_le 1 places && nat_le places 12) (Ok (loaded seed places)) (Err (refusal 8 0))

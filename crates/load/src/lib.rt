@@ -3,7 +3,7 @@
 #![tactic(auto)]
 
 ghost use Rattle.std.specs.Prelude.{◌≡◌, ◌≤◌};
-ghost use Rattle.load.specs.Load.{draw_of, period_of, drawn_task, array_from, no_load, load_of};
+ghost use Rattle.load.specs.Load.{draw_of, period_of, drawn_task, array_from, load_of};
 
 use chain::Chain;
 use refusal::Refusal;
@@ -23,18 +23,12 @@ struct DrawnTask {
     state: u64,
 }
 
-// A made-up chain. The refusal is number 0 at place 0 in a success; in a refusal the chain is zeros.
-#[derive(Clone, Copy)]
-pub struct Load {
-    pub refusal: Refusal,
-    pub chain: Chain,
-}
-
-// The next draw. The supplied addition wraps, which is the order's remainder by 2^64.
+// The next draw. The addition wraps, which is the order's remainder by 2^64.
+#[tactic(auto, unfolding(crate::specs::Load::draw_of))]
 pub fn next_draw(s: u64) -> Draw
     ensures { result ≡ draw_of s }
 {
-    let t = std::num::wrapping_add_u64(s, 0x9E3779B97F4A7C15);
+    let t = s.wrapping_add(0x9E3779B97F4A7C15);
     Draw {
         state: t,
         value: t ^ (t >> 31),
@@ -42,25 +36,18 @@ pub fn next_draw(s: u64) -> Draw
 }
 
 // The period in µs that a number from 0 to 96 picks.
+#[tactic(auto, unfolding(crate::specs::Load::period_of))]
 fn period_of(x: u64) -> u64
     ensures { result ≡ period_of x }
 {
-    if x == 0 {
-        return 2500;
+    match x {
+        0 => 2500,
+        1..=10 => 5000,
+        11..=43 => 10000,
+        44..=58 => 20000,
+        59..=81 => 40000,
+        _ => 80000,
     }
-    if x <= 10 {
-        return 5000;
-    }
-    if x <= 43 {
-        return 10000;
-    }
-    if x <= 58 {
-        return 20000;
-    }
-    if x <= 81 {
-        return 40000;
-    }
-    80000
 }
 
 // One place: the first draw picks the period, the second gives the phase.
@@ -86,60 +73,26 @@ fn tasks_from(seed: u64, places: usize) -> [Task; 12]
     requires { places ≤ 12 }
     ensures { result ≡ array_from seed places }
 {
-    let zero = Task {
-        period: 0,
-        duration: 0,
-        phase: 0,
-    };
-    let mut tasks = [zero; 12];
+    let mut tasks = [Task::default(); 12];
     let mut s = seed;
-    let mut i: usize = 0;
-    while i < places {
+    for i in 0..places {
         let d = draw_task(s);
-        let a = d.task;
-        tasks[i] = a;
+        tasks[i] = d.task;
         s = d.state;
-        i += 1;
     }
     tasks
 }
 
-// 8 gives a chain of zeros.
-fn no_load() -> Load
-    ensures { result ≡ no_load }
-{
-    Load {
-        refusal: Refusal {
-            number: 8,
-            place: 0,
-        },
-        chain: Chain {
-            tasks: tasks_from(0, 0),
-            places: 0,
-            gap: 0,
-        },
-    }
-}
-
 // The chain of a seed and a number of places: 8 for places outside 1 to 12.
-pub fn make_load(seed: u64, places: usize) -> Load
+pub fn make_load(seed: u64, places: usize) -> Result<Chain, Refusal>
     ensures { result ≡ load_of seed places }
 {
-    if places < 1 {
-        return no_load();
+    if !(1..=12).contains(&places) {
+        return Err(Refusal::PLACES_OUTSIDE_LIMITS);
     }
-    if 12 < places {
-        return no_load();
-    }
-    Load {
-        refusal: Refusal {
-            number: 0,
-            place: 0,
-        },
-        chain: Chain {
-            tasks: tasks_from(seed, places),
-            places,
-            gap: 0,
-        },
-    }
+    Ok(Chain {
+        tasks: tasks_from(seed, places),
+        places,
+        gap: 0,
+    })
 }

@@ -1,19 +1,20 @@
 -- Arrays that the loops of this crate fill from the front, and the schedule that is made of two of them.
 use Prim.Native.Nat.{ℕ, zero, suc, ◌+◌, ◌≤◌, ◌<◌}
 use native.Mathlib.Omega.{arith}
-use native.Mathlib.Numerals.{add-one}
 use mathlib.Core.Path.{◌≡◌, refl, sym, ap, ◌∙◌}
 use mathlib.Core.List.{List, [], ◌∷◌, ◌++◌}
 use lib.ListN.{length, get_or, set, take, replicate}
-use lib.Seq.{take-suc, length-take-le}
+use lib.Seq.{length-take-le}
 use Rattle.task.specs.declared.Task.{Task}
 use Rattle.chain.specs.declared.Chain.{Chain}
 use Rattle.chain.specs.Chains.{zero_task, given_of}
 use Rattle.ranges.specs.Entries.{entries, entries_length, entries_more}
+use Rattle.std.proofs.lemmas.List.{ext_get_or, get_or-replicate, length-replicate}
 use Rattle.schedule.specs.declared.NumberedTask.{NumberedTask}
+use Rattle.schedule.specs.declared.Route.{Route}
 use Rattle.schedule.specs.declared.Schedule.{Schedule}
 use Rattle.schedule.specs.Schedules.{padded, zero_numbered, empty_route}
-use Rattle.schedule.specs.Padding.{padded_none, padded_set}
+use Rattle.schedule.specs.Padding.{padded_set}
 use Rattle.load_file.specs.LoadFile.{numbered_from, numbers_to, alone_of}
 use Rattle.load_file.specs.ReadBack.{numbered_length}
 
@@ -30,6 +31,23 @@ numbered_next n (a ∷ l) zero h = let e : n + 0 ≡ n = omega arith in rw e
 numbered_next n (a ∷ l) (suc i) h =
     let e : n + suc i ≡ suc n + i = omega arith in
     rw e (ap (λ (ts : List NumberedTask). record { number = n; task = a } ∷ ts) (numbered_next (suc n) l i (omega arith)))
+
+-- a task by default is zeros
+pub zero_task_is : (t : NumberedTask) → (t.number ≡ 0) × ((t.task.period ≡ 0) × ((t.task.duration ≡ 0) × (t.task.phase ≡ 0))) → t ≡ zero_numbered
+zero_task_is t e = go t.number t.task.period t.task.duration t.task.phase e.0 e.1.0 e.1.1.0 e.1.1.1
+  where
+    go : (n p d f : ℕ) → n ≡ 0 → p ≡ 0 → d ≡ 0 → f ≡ 0 → ◌≡◌ {A = NumberedTask} (record { number = n; task = record { period = p; duration = d; phase = f } }) zero_numbered
+    go n p d f a b c e = rw (a, b, c, e)
+
+-- and a route by default is the empty one
+pub empty_route_is : (r : Route) → ((i d : ℕ) → i < 12 → get_or r.places i d ≡ 0) → length r.places ≡ 12 → r.count ≡ 0 → r ≡ empty_route
+empty_route_is r each long none = go r.places r.count zeros none
+  where
+    zeros : r.places ≡ replicate 12 0
+    zeros = ext_get_or 0 r.places (replicate 12 0) (long ∙ sym (length-replicate {A = ℕ} 12 0)) (λ i h. each i 0 (omega arith) ∙ sym (get_or-replicate 12 i 0 0 (omega arith)))
+
+    go : (p : List ℕ) (n : ℕ) → p ≡ replicate 12 0 → n ≡ 0 → ◌≡◌ {A = Route} (record { places = p; count = n }) empty_route
+    go p n a b = rw (a, b)
 
 pub no_tasks : (l : List Task) → replicate 32 zero_numbered ≡ padded 32 zero_numbered (numbered_from 1 (take 0 l))
 unfolding padded numbered_from
@@ -55,16 +73,6 @@ number_more i array g e =
     let y : i + 1 ≡ suc i = omega arith in
     stores 0 12 array (numbers_to i) (numbers_to (i + 1)) i (i + 1) e (entries_length (λ j. j) 1 i) g
     (ap (λ (k : ℕ). numbers_to i ++ (k ∷ [])) z ∙ sym (entries_more (λ j. j) 1 i) ∙ ap numbers_to (sym y))
-
--- ---- a line
-
-pub no_bytes : (l : List ℕ) → replicate 256 0 ≡ padded 256 0 (take 0 l)
-no_bytes l = sym (padded_none 0 256)
-
-pub byte_more : (l : List ℕ) (i : ℕ) (array : List ℕ) → i < length l → i < 256 → array ≡ padded 256 0 (take i l) → set array i (get_or l i 0) ≡ padded 256 0 (take (i + 1) l)
-byte_more l i array h g e =
-    stores 0 256 array (take i l) (take (i + 1) l) i (get_or l i 0) e (length-take-le i l (omega arith)) g
-    (sym (take-suc l i 0 h) ∙ ap (λ (k : ℕ). take k l) (sym (add-one i)))
 
 -- ---- the schedule
 

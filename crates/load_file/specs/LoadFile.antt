@@ -8,7 +8,7 @@ use Rattle.schedule.specs.declared.NumberedTask.{NumberedTask}
 use Rattle.schedule.specs.declared.Schedule.{Schedule}
 use Rattle.schedule.specs.Schedules.{schedule_of}
 use Rattle.file_writer.specs.FileBytes.{file_bytes}
-use Rattle.load.specs.Load.{load_of}
+use Rattle.load.specs.Load.{loaded}
 
 -- Tasks with the numbers n, n + 1 and so on.
 unfoldable pub numbered_from : ℕ → List Task → List NumberedTask
@@ -28,4 +28,4 @@ alone_of c = schedule_of (numbered_from 1 (given_of c)) (numbers_to c.places ∷
 
 -- The file of the chain that a seed and a number of places make.
 abbrev pub file_of_load : ℕ → ℕ → List ℕ
-file_of_load seed places = file_bytes (alone_of (load_of seed places).chain)
+file_of_load seed places = file_bytes (alone_of (loaded seed places))

@@ -1,16 +1,15 @@
 -- The file of a made-up chain: its schedule is sound (`sound_load`), reading the file gives that schedule (`load_read`), and its one chain is the chain that was made (`load_chain`).
 -- So whoever reads it, chainreport or any call, has the chain of the seed; and the file has 20 bytes a place and 8 more (`file_length`).
-use Rattle.std.specs.Prelude.{ℕ, zero, suc, ◌+◌, ◌*◌, ◌≤◌, ◌<◌, ◌≡◌, refl, true}
+use Rattle.std.specs.Prelude.{ℕ, zero, suc, ◌+◌, ◌*◌, ◌≤◌, ◌<◌, ◌≡◌, refl, true, Ok}
 use Rattle.std.proofs.Common.{arith, sym, ◌∙◌, le-leb, lt-ltb, eq-eqb, ne_eqb}
 use Rattle.std.proofs.Math.Decide.{dec_lt}
 use Rattle.std.proofs.Math.Path.{ap}
 use mathlib.Core.List.{List, [], ◌∷◌, ◌++◌, map, append-nil}
 use Rattle.std.proofs.Math.ListN.{length}
-use Rattle.refusal.specs.Refusals.{none}
 use Rattle.task.specs.declared.Task.{Task}
 use Rattle.task.proofs.LinkLaws.{limits_hold}
 use Rattle.chain.specs.declared.Chain.{Chain}
-use Rattle.chain.specs.Chains.{given_of, zero_task}
+use Rattle.chain.specs.Chains.{zero_task}
 use Rattle.ranges.specs.Entries.{entries, entries_length}
 use Rattle.schedule.specs.declared.NumberedTask.{NumberedTask}
 use Rattle.schedule.specs.declared.Route.{Route}
@@ -25,8 +24,7 @@ use Rattle.file_writer.proofs.Lengths.{length_chain, length_file}
 use Rattle.round_trip.specs.Right.{no_chain_holds, one_more, Right}
 use Rattle.round_trip.specs.ReadAfterWrite.{read_of_file}
 use Rattle.round_trip.proofs.RoundTrips.{routes_front, routes_back, right_sound}
-use Rattle.load.specs.declared.Load.{Load}
-use Rattle.load.specs.Load.{task_of, drawn_task, tasks_from, load_of}
+use Rattle.load.specs.Load.{task_of, drawn_task, tasks_from, loaded}
 use Rattle.load.proofs.Passes as passes
 use Rattle.load_file.specs.LoadFile.{numbered_from, numbers_from, numbers_to, alone_of, file_of_load}
 
@@ -89,10 +87,9 @@ module _ (seed places : ℕ) (low : 1 ≤ places) (high : places ≤ 12) where
   s = schedule_of ts (ch ∷ []) 0
 
   -- the schedule of the chain that was made
-  pub alone : alone_of (load_of seed places).chain ≡ s
+  pub alone : alone_of (loaded seed places) ≡ s
   alone =
-      ap (λ (m : Load). schedule_of (numbered_from 1 (given_of (load_of seed places).chain)) (numbers_to m.chain.places ∷ []) m.chain.gap) (passes.made seed places low high)
-      ∙ ap (λ (l : List Task). schedule_of (numbered_from 1 l) (ch ∷ []) 0) (passes.given seed places low high)
+      ap (λ (l : List Task). schedule_of (numbered_from 1 l) (ch ∷ []) 0) (passes.given seed places low high)
 
   task_count : length ts ≡ places
   task_count = numbered_length 1 (tasks_from seed places) ∙ passes.tasks_length places seed
@@ -114,7 +111,7 @@ module _ (seed places : ℕ) (low : 1 ≤ places) (high : places ≤ 12) where
     permitted = omega arith;
   }
 
-  pub sound_load : SoundSchedule (alone_of (load_of seed places).chain)
+  pub sound_load : SoundSchedule (alone_of (loaded seed places))
   sound_load = rw alone (right_sound ts (ch ∷ []) 0 right)
 
   -- its file
@@ -129,8 +126,8 @@ module _ (seed places : ℕ) (low : 1 ≤ places) (high : places ≤ 12) where
       let e : length (chain_bytes ch ++ []) ≡ 4 + 2 * length ch = ap length (append-nil (chain_bytes ch)) ∙ length_chain ch in
       omega (arith, ap length spelt, length_file ts (ch ∷ []) 0, e, task_count, place_count)
 
-  pub load_read : read_file (file_of_load seed places) ≡ record { refusal = none; schedule = alone_of (load_of seed places).chain }
-  load_read = ap read_file spelt ∙ read_of_file ts (ch ∷ []) 0 right ∙ ap (λ (x : Schedule). record { refusal = none; schedule = x }) (sym alone)
+  pub load_read : read_file (file_of_load seed places) ≡ Ok (alone_of (loaded seed places))
+  load_read = ap read_file spelt ∙ read_of_file ts (ch ∷ []) 0 right ∙ ap Ok (sym alone)
 
   -- its one chain
   route : route_numbered (routes_in s) 1 ≡ route_of ch
@@ -142,12 +139,11 @@ module _ (seed places : ℕ) (low : 1 ≤ places) (high : places ≤ 12) where
       ap (map (task_numbered ts)) (take_padded 0 12 ch (omega (arith, place_count)) ∙ ap numbers_to (sym (passes.tasks_length places seed)))
       ∙ tasks_at 1 (tasks_from seed places)
 
-  pub load_chain : chain_at (alone_of (load_of seed places).chain) 1 ≡ (load_of seed places).chain
+  pub load_chain : chain_at (alone_of (loaded seed places)) 1 ≡ loaded seed places
   load_chain =
       ap (λ (x : Schedule). chain_at x 1) alone
       ∙ ap (λ (r : Route). chain_of 0 (tasks_in s) r) route ∙ ap (λ (l : List NumberedTask). chain_of 0 l (route_of ch)) (take_padded zero_numbered 32 ts right.few)
       ∙ ap (λ (l : List Task). made l (length ch)) tasks_there ∙ ap (made (tasks_from seed places)) place_count
-      ∙ sym (ap (λ (m : Load). m.chain) (passes.made seed places low high))
     where
       made : List Task → ℕ → Chain
       made l n = record { tasks = padded 12 zero_task l; places = n; gap = 0 }

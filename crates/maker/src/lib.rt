@@ -7,14 +7,15 @@ ghost use Rattle.chain.specs.Flat.{given_in, tasks_in};
 ghost use Rattle.stepping.specs.Standing.{Reciprocals};
 ghost use Rattle.maker.specs.Turn.{last_end, Added, Filled, Fills, Begins, Walked};
 ghost use Rattle.maker.specs.Making.{after_checks, Makes, MakesFor};
+ghost use Rattle.maker.specs.declared.Unmade.TheVariants.{Refused};
 
-use chain::{Chain, Verdict};
+use chain::Chain;
 use partition::Partition;
 use refusal::Refusal;
 use task::{Job, Place, Tick};
 
 // The anchor count g, the warm-up tick x0, the hyperperiod H and the number of partitions walked.
-#[derive(Clone, Copy)]
+#[derive(Clone, Copy, PartialEq, Eq, Debug)]
 pub struct Figures {
     pub anchors: usize,
     pub tick: Tick,
@@ -22,12 +23,19 @@ pub struct Figures {
     pub walked: u64,
 }
 
-// Whole: the lists hold all anchors. Short: refusal 11, the lists hold the first anchors that fit. Refused: the lists are as they were.
-#[derive(Clone, Copy)]
-pub enum Made {
-    Whole(Figures),
+// Why a table is not whole. Short: refusal 11, the lists hold the first anchors that fit. Refused: the lists are as they were.
+#[derive(Clone, Copy, PartialEq, Eq, Debug)]
+pub enum Unmade {
     Short(Figures),
     Refused(Refusal),
+}
+
+impl From<Refusal> for Unmade {
+    ghost from_gives = { λ r u. u ≡ Refused r };
+
+    fn from(r: Refusal) -> Unmade {
+        Unmade::Refused(r)
+    }
 }
 
 // What `fill` counts.
@@ -99,8 +107,8 @@ fn walk(
     requires { (Begins (tasks_in gap tasks.now) places p n first after.0 state.old) × Reciprocals (tasks_in gap tasks.now) reciprocals.now }
     ensures { (Filled (tasks_in gap tasks.now) p first.job.0 n starts.old latencies.old starts.new latencies.new result) × Walked (tasks_in gap tasks.now) p first.job.0 n state.old state.new }
 {
-    let mut walked: u64 = 1;
-    let mut g: usize = 0;
+    let mut walked = 1;
+    let mut g = 0;
     let mut last = Tick(0);
     let mut here = first;
     while walked < n {
@@ -166,47 +174,35 @@ fn fill(
     let mut state = [0u64; 24];
     let first = outset::first(tasks, gap, places, p, from, &mut state);
     if n < 2 {
-        let g = add_anchor(first, after, Tick(0), 0, starts, latencies);
-        return Count {
-            anchors: g,
+        Count {
+            anchors: add_anchor(first, after, Tick(0), 0, starts, latencies),
             walked: 1,
-        };
+        }
+    } else {
+        walk_by_steps(
+            tasks, gap, places, p, n, first, after, &mut state, starts, latencies,
+        )
     }
-    walk_by_steps(
-        tasks, gap, places, p, n, first, after, &mut state, starts, latencies,
-    )
 }
 
 // The checks of making after the chain's own: 9 and 10. a and b are the lists' lengths.
-fn judge(v: Verdict, places: usize, p: usize, a: usize, b: usize) -> Verdict
+fn judge(
+    v: Result<u64, Refusal>,
+    places: usize,
+    p: usize,
+    a: usize,
+    b: usize,
+) -> Result<u64, Refusal>
     ensures { result ≡ after_checks v places p a b }
 {
-    match v {
-        Verdict::Refused(r) => {
-            return Verdict::Refused(r);
-        }
-        Verdict::Accepted(h) => {
-            if p < 1 {
-                return Verdict::Refused(Refusal {
-                    number: 9,
-                    place: 0,
-                });
-            }
-            if places < p {
-                return Verdict::Refused(Refusal {
-                    number: 9,
-                    place: 0,
-                });
-            }
-            if a != b {
-                return Verdict::Refused(Refusal {
-                    number: 10,
-                    place: 0,
-                });
-            }
-            Verdict::Accepted(h)
-        }
+    let h = v?;
+    if p < 1 || places < p {
+        return Err(Refusal::CUT_OUTSIDE_PLACES);
     }
+    if a != b {
+        return Err(Refusal::LISTS_UNEQUAL);
+    }
+    Ok(h)
 }
 
 // Making on a flat list of tasks, one for each place, which is lent and not copied, with the gap of their links.
@@ -216,52 +212,50 @@ pub fn make_table_on(
     p: usize,
     starts: &mut [u64],
     latencies: &mut [u64],
-) -> Made
+) -> Result<Figures, Unmade>
     ensures { MakesFor gap (given_in tasks.now) p starts.old latencies.old starts.new latencies.new result }
 {
     let a = starts.len();
     let places = tasks.len() / 3;
-    let v = judge(chain::check_on(tasks, gap), places, p, a, latencies.len());
-    match v {
-        Verdict::Refused(r) => {
-            return Made::Refused(r);
-        }
-        Verdict::Accepted(h) => {
-            let q = p - 1;
-            let jobs = timing::warm_jobs(tasks, gap);
-            let from = jobs[q];
-            let w = jobs[0];
-            let first = chain::task_at(tasks, gap, 0);
-            let tick = first.read(w);
-            let t = chain::task_at(tasks, gap, q);
-            let after = Tick(tick.0 + h);
-            let f = fill(
-                tasks,
-                gap,
-                places,
-                q,
-                from,
-                h / t.period,
-                after,
-                starts,
-                latencies,
-            );
-            let figures = Figures {
-                anchors: f.anchors,
-                tick,
-                hyperperiod: h,
-                walked: f.walked,
-            };
-            if f.anchors <= a {
-                return Made::Whole(figures);
-            }
-            Made::Short(figures)
-        }
+    let h = judge(chain::check_on(tasks, gap), places, p, a, latencies.len())?;
+    let q = p - 1;
+    let jobs = timing::warm_jobs(tasks, gap);
+    let from = jobs[q];
+    let w = jobs[0];
+    let first = chain::task_at(tasks, gap, 0);
+    let tick = first.read(w);
+    let t = chain::task_at(tasks, gap, q);
+    let after = Tick(tick.0 + h);
+    let f = fill(
+        tasks,
+        gap,
+        places,
+        q,
+        from,
+        h / t.period,
+        after,
+        starts,
+        latencies,
+    );
+    let figures = Figures {
+        anchors: f.anchors,
+        tick,
+        hyperperiod: h,
+        walked: f.walked,
+    };
+    if f.anchors <= a {
+        return Ok(figures);
     }
+    Err(Unmade::Short(figures))
 }
 
 // Document 01's making: the table of chain c cut at place p, p counted from 1; refusals 8, 5, 7, 9, 10, 11.
-pub fn make_table(c: Chain, p: usize, starts: &mut [u64], latencies: &mut [u64]) -> Made
+pub fn make_table(
+    c: Chain,
+    p: usize,
+    starts: &mut [u64],
+    latencies: &mut [u64],
+) -> Result<Figures, Unmade>
     ensures { Makes c p starts.old latencies.old starts.new latencies.new result }
 {
     let tasks = chain::flat(c);

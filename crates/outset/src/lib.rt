@@ -52,11 +52,9 @@ pub fn reciprocals_of(tasks: &[u64], gap: u64, n: usize, reciprocals: &mut [u64]
     requires { (Sound (tasks_in gap tasks.now)) × (n ≡ length (tasks_in gap tasks.now)) × (3 * n ≤ length reciprocals.old) }
     ensures { Reciprocals (tasks_in gap tasks.now) reciprocals.new }
 {
-    let mut i: usize = 0;
-    while i < n {
+    for i in 0..n {
         let a = chain::task_at(tasks, gap, i);
         give(reciprocals, i, a.period);
-        i += 1;
     }
 }
 
@@ -77,11 +75,9 @@ fn first_back(tasks: &[u64], gap: u64, p: usize, m: Job, state: &mut [u64])
     requires { (Cut (tasks_in gap tasks.now) p m.0) × (2 * (p + 1) ≤ length state.old) × (StandsFrom (tasks_in gap tasks.now) p m.0 p (p + 1) state.old) }
     ensures { States (tasks_in gap tasks.now) p m.0 0 (p + 1) state.old state.new }
 {
-    let mut i = p;
     let mut j = m;
     let mut b = chain::task_at(tasks, gap, p);
-    while 0 < i {
-        i -= 1;
+    for i in (0..p).rev() {
         let a = chain::task_at(tasks, gap, i);
         let t = b.read(j);
         j = Job(put(state, i, t.0 - a.phase - a.duration - a.gap, a.period));
@@ -94,16 +90,12 @@ fn first_on(tasks: &[u64], gap: u64, n: usize, p: usize, m: Job, state: &mut [u6
     requires { (Cut (tasks_in gap tasks.now) p m.0) × (n ≡ length (tasks_in gap tasks.now)) × (2 * n ≤ length state.old) × (StandsFrom (tasks_in gap tasks.now) p m.0 0 (p + 1) state.old) }
     ensures { States (tasks_in gap tasks.now) p m.0 0 n state.old state.new }
 {
-    let last = n - 1;
-    let mut c = p;
-    let k = m.0;
-    let mut j = Job(k + 1);
+    let mut j = Job(m.0 + 1);
     let mut a = chain::task_at(tasks, gap, p);
-    while c < last {
-        c += 1;
-        let b = chain::task_at(tasks, gap, c);
+    for i in p + 1..n {
+        let b = chain::task_at(tasks, gap, i);
         let w = a.readable(j);
-        j = Job(put(state, c, w.0 - b.phase + (b.period - 1), b.period));
+        j = Job(put(state, i, w.0 - b.phase + (b.period - 1), b.period));
         a = b;
     }
 }

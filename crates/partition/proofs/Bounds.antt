@@ -1,12 +1,12 @@
 -- No number on the ways of a partition of a checked chain is large.
+use Rattle.std.specs.Prelude.{None, Option, Some}
 use Prim.Native.Nat.{ℕ, ◌+◌, ◌-◌, ◌≤◌, ◌<◌}
 use native.Mathlib.Omega.{arith}
 use mathlib.Core.Path.{◌≡◌, refl, sym, ap, ◌∙◌}
 use mathlib.Core.List.{List}
 use lib.ListN.{length}
+use Rattle.task.specs.declared.Job.{Job}
 use Rattle.task.specs.declared.Place.{Place}
-use Rattle.task.specs.declared.Latest.{Latest}
-use Rattle.task.specs.declared.Latest.TheVariants.{Of, Nothing}
 use Rattle.task.specs.Jobs.{read_of, write_of, Limited}
 use Rattle.task.proofs.LinkLaws.{job_small, read_mono}
 use Rattle.chain.specs.Chains.{at, last_place, backward_by, job_of}
@@ -26,12 +26,12 @@ module _ (l : List Place) (ok : Sound l) (p : ℕ) (h : p < length l) where
   unfolding start_of
   start_near m = go (backward_by l 0 p m) refl
     where
-      go : (q : Latest) → backward_by l 0 p m ≡ q → read_of (at l 0) (job_of q) ≤ read_of (at l p) m + 1000000
-      go (Of j) e =
+      go : (q : Option Job) → backward_by l 0 p m ≡ q → read_of (at l 0) (job_of q) ≤ read_of (at l p) m + 1000000
+      go (Some j) e =
           let z : p - 0 ≡ p = omega arith in
           let f = backward_fits l ok 0 p (omega arith) h m j (rw z e) in
           omega arith
-      go Nothing e = omega (arith, (ok.each 0 ok.some).phase_max)
+      go None e = omega (arith, (ok.each 0 ok.some).phase_max)
 
   start_early : (m : ℕ) → warm_at l p ≤ m → start_of l p m ≤ read_of (at l p) m
   unfolding start_of

@@ -3,12 +3,11 @@ use Prim.Native.Nat.{ℕ, suc, ◌+◌, ◌-◌, ◌/◌, ◌≤◌, ◌<◌}
 use native.Mathlib.Omega.{arith}
 use Rattle.std.proofs.Common.{add-one, mul-le-mul_right, ◌∙◌}
 use Rattle.std.proofs.Math.Decide.{dec_lt}
-use Rattle.std.specs.Prelude.{◌≡◌, refl, ◌≢◌, Bool, length}
+use Rattle.std.specs.Prelude.{◌≡◌, refl, ◌≢◌, Bool, length, None, Option, Some}
 use Rattle.std.proofs.Math.Path.{sym, ap, fun_ext}
 use mathlib.Core.List.{List, map}
+use Rattle.task.specs.declared.Job.{Job}
 use Rattle.task.specs.declared.Place.{Place}
-use Rattle.task.specs.declared.Latest.{Latest}
-use Rattle.task.specs.declared.Latest.TheVariants.{Of, Nothing}
 use Rattle.task.specs.Jobs.{read_of, write_of}
 use Rattle.task.proofs.LinkLaws.{AtLeast}
 use Rattle.chain.specs.Chains.{at, last_place, forward_by, backward_by, on_latest, walk, back, job_of}
@@ -25,9 +24,9 @@ use Rattle.partition.specs.Partitions.{start_of, end_of, keeps, anchor_of, ancho
 use Rattle.partition.specs.Selections.{differ, select, keep_select}
 use Rattle.partition.specs.CanonicalAnchors.{anchors, canonical_from, anchors_canon}
 
-count_job : (q : Latest) → count_of q - 1 ≡ job_of q
-count_job (Of i) = omega arith
-count_job Nothing = refl
+count_job : (q : Option Job) → count_of q - 1 ≡ job_of q
+count_job (Some i) = omega arith
+count_job None = refl
 
 -- the write at the end of the way on from job m at place p
 abbrev pub end_from : List Place → ℕ → ℕ → ℕ
@@ -101,14 +100,14 @@ module _ (l : List Place) (ok : Sound l) (p : ℕ) (h : p < length l) where
       ap (λ (n : ℕ). backward_by l 0 n k) e ∙ backward_cut l 0 p (last_place l - p) k ∙ ap (λ (n : ℕ). on_latest (backward_by l n (last_place l - p) k) (backward_by l 0 p)) z
 
   -- the way back from Wn stands at place p at Wp
-  warm_here : backward_by l p (last_place l - p) (warm_last l) ≡ Of (record { 0 = warm_at l p })
+  warm_here : backward_by l p (last_place l - p) (warm_last l) ≡ Some (record { 0 = warm_at l p })
   unfolding warm_at
   warm_here = let f = warm_found l ok p h in f.is ∙ rw f.is
 
   -- and comes from there to W1
-  pub warm_way : backward_by l 0 p (warm_at l p) ≡ Of (record { 0 = warm_at l 0 })
+  pub warm_way : backward_by l 0 p (warm_at l p) ≡ Some (record { 0 = warm_at l 0 })
   unfolding on_latest
-  warm_way = sym (back_parts (warm_last l) ∙ ap (λ (q : Latest). on_latest q (backward_by l 0 p)) warm_here) ∙ warm_first l ok
+  warm_way = sym (back_parts (warm_last l) ∙ ap (λ (q : Option Job). on_latest q (backward_by l 0 p)) warm_here) ∙ warm_first l ok
 
   warm_counts : count_back l 0 p (suc (warm_at l p)) ≡ suc (warm_at l 0)
   unfolding count_back
@@ -119,7 +118,7 @@ module _ (l : List Place) (ok : Sound l) (p : ℕ) (h : p < length l) where
   late m g = elim (dec_lt (warm_last l) (forward_by l p (last_place l - p) (suc m))) [
     | yes k ↦ k
     | no k ↦
-        let a : AtLeast (Of (record { 0 = warm_at l p })) (suc m) = rw warm_here at ((galois l p (last_place l - p) tail (suc m) (warm_last l)).0 (omega arith)) in
+        let a : AtLeast (Some (record { 0 = warm_at l p })) (suc m) = rw warm_here at ((galois l p (last_place l - p) tail (suc m) (warm_last l)).0 (omega arith)) in
         absurd (omega arith)
   ]
 

@@ -1,11 +1,11 @@
 -- Order 5: with a gap of 0 every partition and every anchor is the old one: starts, ends and anchors as document 01 alone has them, on the tasks that are given.
-use Rattle.std.specs.Prelude.{ℕ, ◌+◌, ◌-◌, ◌/◌, ◌<◌, ◌≡◌, refl, Bool, not, eqb, length}
+use Rattle.std.specs.Prelude.{ℕ, ◌+◌, ◌-◌, ◌/◌, ◌<◌, ◌≡◌, refl, Bool, not, eqb, length, Option}
 use Rattle.std.proofs.Common.{arith, ◌∙◌}
 use Rattle.std.proofs.Math.Path.{ap}
 use mathlib.Core.List.{List, [], ◌∷◌, map}
+use Rattle.task.specs.declared.Job.{Job}
 use Rattle.task.specs.declared.Task.{Task}
 use Rattle.task.specs.declared.Place.{Place}
-use Rattle.task.specs.declared.Latest.{Latest}
 use Rattle.task.specs.Jobs.{read_of, write_of}
 use Rattle.chain.specs.Chains.{placed, at, last_place, forward_by, backward_by, job_of}
 use Rattle.chain.specs.Placed.{at_placed}
@@ -61,7 +61,7 @@ module _ (l : List Task) (p : ℕ) (inside : p < length l) where
   pub start_without : (m : ℕ) → start_of L p m ≡ start_plain l p m
   unfolding start_of
   start_without m =
-      ap (λ (a : Place). read_of a (job_of (backward_by L 0 p m))) (at_placed 0 l 0 (omega arith)) ∙ ap (λ (q : Latest). read_plain (task_at l 0) (job_of q)) (backward_without l 0 p m (omega arith))
+      ap (λ (a : Place). read_of a (job_of (backward_by L 0 p m))) (at_placed 0 l 0 (omega arith)) ∙ ap (λ (q : Option Job). read_plain (task_at l 0) (job_of q)) (backward_without l 0 p m (omega arith))
 
   pub end_without : (m : ℕ) → end_of L p m ≡ end_plain l p m
   unfolding end_of

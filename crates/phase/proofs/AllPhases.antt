@@ -1,4 +1,5 @@
 -- The phases below a divisor of the period stand for all, and the exits of `search_period` and `judged`.
+use Rattle.std.specs.Prelude.{Err, None, Ok, Option, Some, position}
 use Prim.Native.Nat.{ℕ, suc, ◌+◌, ◌*◌, ◌/◌, ◌≤◌, ◌<◌}
 use native.Mathlib.Omega.{arith}
 use native.Mathlib.Nat.{le_of_dvd, div-mul-le_self, mul-le-mul_right, mul_comm}
@@ -6,8 +7,7 @@ use mathlib.Core.Path.{◌≡◌, refl, sym, ap, ◌∙◌}
 use mathlib.Core.Bool.{Bool, true, false, cond}
 use mathlib.Core.List.{List, [], ◌∷◌}
 use lib.Dec.{leb, eqb}
-use lib.ListN.{length, get_or, take, length-map}
-use lib.Seq.{take-length}
+use lib.ListN.{length, get_or, length-map}
 use borrow.Author.Tests.{le-leb, lt-leb, lt-ltb, le-ltb, eqb-true}
 use Rattle.refusal.specs.Refusals.{refusal}
 use Rattle.ranges.specs.Least.{least_from}
@@ -20,13 +20,11 @@ use Rattle.chain.specs.Chains as chains
 use Rattle.chain.specs.Chains.{placed, zero_task}
 use Rattle.chain.specs.Placed.{at_placed}
 use Rattle.chain.specs.Hyperperiod.{hyper_of}
-use Rattle.chain.specs.declared.Verdict.TheVariants as verdict
 use Rattle.chain.specs.Checks.{verdict_in}
 use Rattle.chain.proofs.CheckLaws.{accepted_in}
 use Rattle.schedule.specs.Schedules.{position_of, known}
-use Rattle.schedule.specs.Numbers.{known_position, unknown_position}
+use Rattle.schedule.specs.Numbers.{known_position, unknown_position, position_some, position_lost}
 use Rattle.latency.specs.LongestPlace.{longest_period, longest_place_holds, longest_is}
-use Rattle.phase.specs.declared.Phase.TheVariants.{Of, Nothing, Refused}
 use Rattle.phase.specs.declared.Tried.{Tried}
 use Rattle.phase.specs.Phases.{found_at}
 use Rattle.phase.specs.PhasesRepeat.{Periods, phases_repeat}
@@ -113,25 +111,28 @@ module _ (g : ℕ) (places : List ℕ) (l : List Task) (ok : AcceptedList g plac
 
 -- ---- 19, 20, or what was found
 
-module _ (g : ℕ) (places : List ℕ) (l : List Task) (number bound at : ℕ) (is : at ≡ position_of number (take (length places) places)) where
-  at_is : at ≡ position_of number places
-  at_is = is ∙ ap (position_of number) (take-length places)
-
-  pub not_there : length places ≤ at → Refused (refusal 19 0) ≡ judged_in g places l number bound
+module _ (g : ℕ) (places : List ℕ) (l : List Task) (number bound : ℕ) where
+  pub not_there : ◌≡◌ {A = Option ℕ} None (position (λ m. eqb m number) places) → Err (refusal 19 0) ≡ judged_in g places l number bound
   unfolding judged_in
-  not_there h = rw (unknown_position places number (omega (arith, at_is)))
+  not_there h = rw (unknown_position places number (position_lost number places h))
 
-  module _ (inside : at < length places) where
+  module _ (at : ℕ) (is : Some at ≡ position (λ m. eqb m number) places) where
+    at_is : at ≡ position_of number places
+    at_is = (position_some number places at is).0
+
+    inside : at < length places
+    inside = (position_some number places at is).1
+
     there : known places number ≡ true
-    there = known_position places number (omega (arith, at_is))
+    there = known_position places number (omega (arith, at_is, inside))
 
     pub number_at_holds : get_or places at 0 ≡ number
-    number_at_holds = ap (λ (i : ℕ). get_or places i 0) at_is ∙ position_at places number (omega (arith, at_is))
+    number_at_holds = ap (λ (i : ℕ). get_or places i 0) at_is ∙ position_at places number (omega (arith, at_is, inside))
 
     period_in_holds : period_in places l number ≡ (get_or l at zero_task).period
     period_in_holds = ap (λ (i : ℕ). (get_or l i zero_task).period) (sym at_is)
 
-    pub too_long : 10000 < (get_or l at zero_task).period → Refused (refusal 20 0) ≡ judged_in g places l number bound
+    pub too_long : 10000 < (get_or l at zero_task).period → Err (refusal 20 0) ≡ judged_in g places l number bound
     unfolding judged_in
     too_long h = rw (there, period_in_holds, lt-leb (get_or l at zero_task).period 10000 h)
 
@@ -143,12 +144,12 @@ module _ (g : ℕ) (places : List ℕ) (l : List Task) (number bound at : ℕ) (
           = finds.phase ∙ ap (λ (m : ℕ). least_from (keeps_in g places l m bound) 0 (get_or l at zero_task).period) number_at_holds in
           rw (there, period_in_holds, le-leb (get_or l at zero_task).period 10000 fits) (ap (found_at (get_or l at zero_task).period) (sym e))
 
-      pub phase_found : r.phase < (get_or l at zero_task).period → Of r.phase ≡ judged_in g places l number bound
+      pub phase_found : r.phase < (get_or l at zero_task).period → Ok (Some r.phase) ≡ judged_in g places l number bound
       phase_found e = sym (judged_so ∙ rw (lt-ltb r.phase (get_or l at zero_task).period e))
 
-      pub none_found : (get_or l at zero_task).period ≤ r.phase → Nothing ≡ judged_in g places l number bound
+      pub none_found : (get_or l at zero_task).period ≤ r.phase → Ok None ≡ judged_in g places l number bound
       none_found e = sym (judged_so ∙ rw (le-ltb r.phase (get_or l at zero_task).period e))
 
 -- what the list's own checks leave
-pub accepted_list : (g : ℕ) (places : List ℕ) (l : List Task) (h : ℕ) → Filled places l → verdict_in g l ≡ verdict.Accepted h → (AcceptedList g places l) × (h ≡ hyper_of (placed g l))
+pub accepted_list : (g : ℕ) (places : List ℕ) (l : List Task) (h : ℕ) → Filled places l → verdict_in g l ≡ Ok h → (AcceptedList g places l) × (h ≡ hyper_of (placed g l))
 accepted_list g places l h filled e = let k = accepted_in g l h e in (record { long = filled.long; sound = k.sound; small = omega (arith, k.hyper, k.small) }, k.hyper)

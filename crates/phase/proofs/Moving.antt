@@ -7,7 +7,6 @@ use mathlib.Core.Bool.{Bool, true, false, cond}
 use mathlib.Core.List.{List, [], ◌∷◌}
 use lib.Dec.{eqb}
 use lib.ListN.{length, get_or, set, take, length-set}
-use lib.Seq.{take_all}
 use borrow.Author.Tests.{eq-eqb, ne_eqb}
 use Rattle.task.specs.declared.Task.{Task}
 use Rattle.chain.specs.Chains.{zero_task}
@@ -83,6 +82,3 @@ module _ (number F : ℕ) (places old : List ℕ) (counts : length places ≡ le
         long = k.long;
         is = k.is ∙ rw (add-one i, moved_more number F places (given_in old) i more (omega arith), ne_eqb (get_or places i 0) number e);
       }
-
-    pub moving_end : length places ≤ i → given_in new ≡ moved_at number F places (given_in old)
-    moving_end all = k.is ∙ ap (λ (ps : List ℕ). moved_at number F ps (given_in old)) (take_all i places all)

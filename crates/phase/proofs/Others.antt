@@ -15,7 +15,7 @@ use Rattle.chain.specs.Chains.{placed, at, zero_task}
 use Rattle.chain.specs.Placed.{at_placed}
 use Rattle.chain.specs.Hyperperiod.{hyper_of}
 use Rattle.chain.specs.Multiples.{hyper_multiple, hyper_pos}
-use Rattle.phase.specs.InList.{AcceptedList, OthersDivide}
+use Rattle.phase.specs.InList.{AcceptedList}
 
 -- the product of two small numbers fits
 pub product_fits : (x y : ℕ) → x ≤ 60000000 → y ≤ 1000000 → x * y ≤ 1000000000000000000
@@ -33,7 +33,7 @@ module _ (g number : ℕ) (places : List ℕ) (l : List Task) (ok : AcceptedList
 
   module _ (multiple i : ℕ) (k : Multiplied g number places l multiple i) where
     module _ (more : i < length places) where
-      pub place_inside : (i < length (placed g l)) × (i < 12)
+      place_inside : (i < length (placed g l)) × (i < 12)
       place_inside = (omega (arith, ok.long, length-map l (place_of g)), omega (arith, ok.long, length-map l (place_of g), ok.sound.few))
 
       -- a place of the task itself
@@ -73,6 +73,3 @@ module _ (g number : ℕ) (places : List ℕ) (l : List Task) (ok : AcceptedList
                     subst (λ (x : ℕ). x ∣ lcm_of multiple a.period) (period_is ∙ ap (λ (y : ℕ). (get_or l y zero_task).period) (sym z)) (lcm_right multiple a.period)
               ];
             }
-
-    pub multiplied_end : length places ≤ i → OthersDivide number places l multiple
-    multiplied_end all = record { some = k.some; others = λ j h u. k.others j (omega (arith, ok.long)) u }

@@ -1,19 +1,16 @@
 -- The same question of a list of tasks, one for each place, and the numbers of the tasks that fill the places: what the code works on. That a schedule's chain has this answer is `in_list` in MovedSchedule.
-use Rattle.std.specs.Prelude.{ℕ, ◌*◌, ◌/◌, ◌≤◌, ◌<◌, ◌≡◌, Bool, cond, List, leb, length, get_or}
+use Rattle.std.specs.Prelude.{ℕ, ◌*◌, ◌/◌, ◌≤◌, ◌<◌, ◌≡◌, Bool, cond, List, leb, length, get_or, Err, Ok, Option, Result}
 use Rattle.std.specs.Int.{◌∣◌}
+use Rattle.refusal.specs.declared.Refusal.{Refusal}
 use Rattle.refusal.specs.Refusals.{refusal}
 use Rattle.ranges.specs.Least.{least_from}
 use Rattle.task.specs.declared.Task.{Task}
-use Rattle.chain.specs.declared.Verdict.{Verdict}
-use Rattle.chain.specs.declared.Verdict.TheVariants as verdict
 use Rattle.chain.specs.Chains.{placed, at, zero_task}
 use Rattle.chain.specs.Checks.{verdict_in, Sound}
 use Rattle.chain.specs.Hyperperiod.{hyper_of}
 use Rattle.schedule.specs.Schedules.{position_of, known}
 use Rattle.stepping.specs.Standing.{Reciprocals}
 use Rattle.latency.specs.Latency.{greatest_latency}
-use Rattle.phase.specs.declared.Phase.{Phase}
-use Rattle.phase.specs.declared.Phase.TheVariants.{Refused}
 use Rattle.phase.specs.declared.Tried.{Tried}
 use Rattle.phase.specs.Phases.{smallest_of}
 use Rattle.phase.specs.MovedTasks.{moved_at}
@@ -27,18 +24,18 @@ abbrev pub period_in : List ℕ → List Task → ℕ → ℕ
 period_in places l number = (get_or l (position_of number places) zero_task).period
 
 -- 19, 20, or the smallest phase.
-unfoldable pub judged_in : ℕ → List ℕ → List Task → ℕ → ℕ → Phase
+unfoldable pub judged_in : ℕ → List ℕ → List Task → ℕ → ℕ → Result (Option ℕ) Refusal
 judged_in g places l number bound =
     cond (known places number)
-    (cond (leb (period_in places l number) 10000) (smallest_of (keeps_in g places l number bound) (period_in places l number)) (Refused (refusal 20 0)))
-    (Refused (refusal 19 0))
+    (cond (leb (period_in places l number) 10000) (smallest_of (keeps_in g places l number bound) (period_in places l number)) (Err (refusal 20 0)))
+    (Err (refusal 19 0))
 
 -- After the list's own checks.
-unfoldable pub after_verdict : ℕ → List ℕ → List Task → ℕ → ℕ → Verdict → Phase
-after_verdict g places l number bound (verdict.Refused r) = Refused r
-after_verdict g places l number bound (verdict.Accepted h) = judged_in g places l number bound
+unfoldable pub after_verdict : ℕ → List ℕ → List Task → ℕ → ℕ → Result ℕ Refusal → Result (Option ℕ) Refusal
+after_verdict g places l number bound (Err r) = Err r
+after_verdict g places l number bound (Ok h) = judged_in g places l number bound
 
-abbrev pub phase_in : ℕ → List ℕ → List Task → ℕ → ℕ → Phase
+abbrev pub phase_in : ℕ → List ℕ → List Task → ℕ → ℕ → Result (Option ℕ) Refusal
 phase_in g places l number bound = after_verdict g places l number bound (verdict_in g l)
 
 -- One number, one task: as many numbers as tasks, and places with the same number have the same task.

@@ -1,6 +1,6 @@
 -- The schedule with a moved task: its chains have that task's phase at all its places and are else as they were (`moved_chain`). It passes 8, 5 and 6 as before, and 7 says of each of its chains
 -- what it said (`moved_sound`, `moved_verdict`), so no check is done again. And the answer of a schedule's chain is that of its tasks and numbers (`in_list`).
-use Rattle.std.specs.Prelude.{ℕ, zero, suc, ◌+◌, ◌≤◌, ◌<◌, Bool, leb, eqb, length, get_or}
+use Rattle.std.specs.Prelude.{ℕ, ◌+◌, ◌≤◌, ◌<◌, Bool, leb, eqb, length, get_or, Err, Ok, Option, Result}
 use Rattle.std.proofs.Common.{arith, ◌∙◌}
 use Rattle.std.proofs.Math.Decide.{ℕ_discrete}
 use Rattle.std.proofs.Math.Path.{◌≡◌, refl, sym, ap}
@@ -8,13 +8,12 @@ use Rattle.std.proofs.Math.Bool.{true, false, cond}
 use mathlib.Core.List.{List, [], ◌∷◌, map}
 use Rattle.std.proofs.lemmas.List.{length-map}
 use borrow.Author.Tests.{eq-eqb, ne_eqb, le-leb, lt-ltb}
+use Rattle.refusal.specs.declared.Refusal.{Refusal}
 use Rattle.refusal.specs.Refusals.{refusal, none}
 use Rattle.ranges.proofs.LeastLaws.{least_same}
 use Rattle.task.specs.declared.Task.{Task}
 use Rattle.task.specs.Jobs.{Within}
 use Rattle.task.proofs.LinkLaws.{limits_hold}
-use Rattle.chain.specs.declared.Verdict.{Verdict}
-use Rattle.chain.specs.declared.Verdict.TheVariants as verdict
 use Rattle.chain.specs.Chains.{given_of, placed, tasks_of, zero_task}
 use Rattle.chain.specs.Checks.{hyper_verdict, verdict_for, verdict_of, verdict_in}
 use Rattle.chain.specs.Hyperperiod.{hyper_of}
@@ -32,8 +31,6 @@ use Rattle.schedule_checks.proofs.SoundSchedule.{SoundSchedule, fault_cons, no_r
 use Rattle.schedule_checks.proofs.SoundChain.{sound_placed, sound_length, sound_known, sound_chain, sound_route}
 use Rattle.schedule_checks.proofs.ChosenChain.{choice_sound, choice_there, choice_answers}
 use Rattle.latency.specs.Latency.{greatest_latency}
-use Rattle.phase.specs.declared.Phase.{Phase}
-use Rattle.phase.specs.declared.Phase.TheVariants.{Refused}
 use Rattle.phase.specs.Phases.{phased, with_phase, moved, keeps_bound, found_at, smallest_of, period_of, places_at, phase_after, phase_from}
 use Rattle.phase.specs.MovedTasks.{moved_at, moved_hyper}
 use Rattle.phase.specs.InList.{keeps_in, period_in, judged_in, after_verdict, phase_in, Filled}
@@ -207,7 +204,7 @@ module _ (s : Schedule) (number F : ℕ) where
           let e : hyper_of (tasks_of (chain_at (moved s number F) n)) ≡ hyper_of (tasks_of (chain_at s n))
           = ap hyper_of moved_chain ∙ moved_hyper number s.gap F (places_at s n) (given_of (chain_at s n)) in
           sound_chain (moved s number F) (moved_arrays a) (moved_sound f k) n low high
-          ∙ ap (λ (h : ℕ). cond (leb h 60000000) (verdict.Accepted h) (verdict.Refused (refusal 7 0))) e
+          ∙ ap (λ (h : ℕ). cond (leb h 60000000) (Ok h) (Err (refusal 7 0))) e
           ∙ sym (sound_chain s a k n low high)
 
 -- ---- the answer, by the tasks and numbers at the places
@@ -264,7 +261,7 @@ module _ (s : Schedule) (a : Arrays s) (n : ℕ) (chosen : (choice_of s n).numbe
     keeps_same F = ap (λ (l : List _). leb (greatest_latency l) bound) (sym (moved_chain s number F n a k low high))
 
     judged_same : judged_in s.gap places tasks number bound
-        ≡ cond (known places number) (cond (leb (period_of s number) 10000) (smallest_of (keeps_bound s n number bound) (period_of s number)) (Refused (refusal 20 0))) (Refused (refusal 19 0))
+        ≡ cond (known places number) (cond (leb (period_of s number) 10000) (smallest_of (keeps_bound s n number bound) (period_of s number)) (Err (refusal 20 0))) (Err (refusal 19 0))
     unfolding judged_in
     judged_same = go (known places number) refl
       where
@@ -272,18 +269,18 @@ module _ (s : Schedule) (a : Arrays s) (n : ℕ) (chosen : (choice_of s n).numbe
         smallest T = ap (found_at T) (least_same (keeps_in s.gap places tasks number bound) (keeps_bound s n number bound) T 0 (λ F u v. keeps_same F))
 
         go : (b : Bool) → known places number ≡ b
-            → cond b (cond (leb (period_in places tasks number) 10000) (smallest_of (keeps_in s.gap places tasks number bound) (period_in places tasks number)) (Refused (refusal 20 0))) (Refused (refusal 19 0))
-            ≡ cond b (cond (leb (period_of s number) 10000) (smallest_of (keeps_bound s n number bound) (period_of s number)) (Refused (refusal 20 0))) (Refused (refusal 19 0))
+            → cond b (cond (leb (period_in places tasks number) 10000) (smallest_of (keeps_in s.gap places tasks number bound) (period_in places tasks number)) (Err (refusal 20 0))) (Err (refusal 19 0))
+            ≡ cond b (cond (leb (period_of s number) 10000) (smallest_of (keeps_bound s n number bound) (period_of s number)) (Err (refusal 20 0))) (Err (refusal 19 0))
         go false e = refl
         go true e =
             let p : period_in places tasks number ≡ period_of s number = ap (λ (l : List Task). (get_or l (position_of number places) zero_task).period) tasks_are ∙ ap (λ (t : Task). t.period) (position_task f places number e) in
-            ap (λ (T : ℕ). cond (leb T 10000) (smallest_of (keeps_in s.gap places tasks number bound) T) (Refused (refusal 20 0))) p
-            ∙ ap (λ (x : Phase). cond (leb (period_of s number) 10000) x (Refused (refusal 20 0))) (smallest (period_of s number))
+            ap (λ (T : ℕ). cond (leb T 10000) (smallest_of (keeps_in s.gap places tasks number bound) T) (Err (refusal 20 0))) p
+            ∙ ap (λ (x : Result (Option ℕ) Refusal). cond (leb (period_of s number) 10000) x (Err (refusal 20 0))) (smallest (period_of s number))
 
     pub in_list : phase_from s n number bound ≡ phase_in s.gap places tasks number bound
     unfolding phase_after after_verdict
-    in_list = choice_answers s n Refused _ chosen ∙ go (verdict_of (chain_at s n)) ∙ ap (after_verdict s.gap places tasks number bound) (sym verdict_in_holds)
+    in_list = choice_answers s n Err _ chosen ∙ go (verdict_of (chain_at s n)) ∙ ap (after_verdict s.gap places tasks number bound) (sym verdict_in_holds)
       where
-        go : (v : Verdict) → phase_after s n number bound v ≡ after_verdict s.gap places tasks number bound v
-        go (verdict.Refused r) = refl
-        go (verdict.Accepted h) = sym judged_same
+        go : (v : Result ℕ Refusal) → phase_after s n number bound v ≡ after_verdict s.gap places tasks number bound v
+        go (Err r) = refl
+        go (Ok h) = sym judged_same

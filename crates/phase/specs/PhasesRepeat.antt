@@ -13,7 +13,7 @@ use Rattle.euclid.specs.Combination.{Less, divisor_right}
 use Rattle.task.specs.declared.Task.{Task}
 use Rattle.task.specs.Jobs.{place_of}
 use Rattle.task.proofs.LinkLaws.{Later, periods_later}
-use Rattle.chain.specs.Chains.{placed, at, last_place, zero_task}
+use Rattle.chain.specs.Chains.{placed, last_place, zero_task}
 use Rattle.chain.specs.Checks.{Sound}
 use Rattle.timing.specs.Period.{ShiftedTo}
 use Rattle.latency.specs.Latency.{greatest_latency}

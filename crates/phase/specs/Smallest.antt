@@ -1,7 +1,7 @@
 -- Order 9 in the customer's words, of what the call answers: a phase is answered exactly where it is the smallest from 0 to period − 1 that keeps the bound (`smallest_phase`), `none` exactly where there is
 -- none (`none_exactly`). With the phase found no delay is above the bound, and with each smaller one there is such a delay (`kept`, `broken`); every completed table has the greatest latency that was compared (`table_keeps`). The phase of today does not matter (`phase_today`).
 -- Phases from the period on add nothing: each is as good as its remainder (`phase_remainder`), so `none` is said of every permitted phase (`none_at_all`).
-use Rattle.std.specs.Prelude.{ℕ, ◌+◌, ◌%◌, ◌≤◌, ◌<◌, ◌≡◌, ◌↔◌, Bool, List, length, get_or}
+use Rattle.std.specs.Prelude.{ℕ, ◌+◌, ◌%◌, ◌≤◌, ◌<◌, ◌≡◌, ◌↔◌, Bool, List, length, get_or, Err, None, Ok, Option, Result, Some}
 use Rattle.std.specs.Int.{◌∣◌}
 use Rattle.std.proofs.Common.{arith, mod-lt, sym, ap, ◌∙◌, subst, true≢false}
 use Rattle.std.proofs.Math.Decide.{dec_lt}
@@ -20,9 +20,7 @@ use Rattle.task.specs.declared.Task.{Task}
 use Rattle.task.specs.declared.Place.{Place}
 use Rattle.task.specs.Jobs.{place_of}
 use Rattle.chain.specs.declared.Chain.{Chain}
-use Rattle.chain.specs.declared.Verdict.{Verdict}
-use Rattle.chain.specs.declared.Verdict.TheVariants as verdict
-use Rattle.chain.specs.Chains.{given_of, placed, tasks_of, at, zero_task}
+use Rattle.chain.specs.Chains.{given_of, placed, tasks_of, zero_task}
 use Rattle.chain.specs.Placed.{at_placed}
 use Rattle.chain.specs.Checks.{Sound, verdict_of}
 use Rattle.chain.specs.Hyperperiod.{hyper_of}
@@ -38,15 +36,11 @@ use Rattle.schedule_checks.specs.Checks.{choice_of}
 use Rattle.schedule_checks.proofs.ChosenChain.{chosen_twelve, choice_sound, choice_answers, answer_chosen}
 use Rattle.timing.specs.WarmUp.{warm_tick}
 use Rattle.timing.specs.Delay.{delay_at}
-use Rattle.figures.specs.declared.Greatest.TheVariants.{Latency}
 use Rattle.figures.specs.Figures.{greatest_of}
 use Rattle.maker.specs.declared.Figures.{Figures}
-use Rattle.maker.specs.declared.Made.TheVariants.{Whole}
 use Rattle.maker.specs.Making.{Makes}
 use Rattle.latency.specs.Latency.{greatest_latency}
 use Rattle.latency.specs.GreatestDelay.{greatest_latency_is, table_greatest}
-use Rattle.phase.specs.declared.Phase.{Phase}
-use Rattle.phase.specs.declared.Phase.TheVariants.{Of, Nothing, Refused}
 use Rattle.phase.specs.Phases.{moved, keeps_bound, found_at, smallest_of, period_of, places_at, phase_after, phase_from}
 use Rattle.phase.specs.Search.{SmallestPhase, NoPhase, smallest_found, none_there, found_smallest, none_smallest, test_remainder}
 use Rattle.phase.specs.PhasesRepeat.{Periods, phases_repeat}
@@ -63,7 +57,7 @@ pub record LatePress (l : List Place) (bound : ℕ) : Type 0 where
 pub record Passed (s : Schedule) (n number : ℕ) : Type 0 where
   pub chosen : (choice_of s n).number ≡ 0
   pub hyper : ℕ
-  pub accepted : verdict_of (chain_at s n) ≡ verdict.Accepted hyper
+  pub accepted : verdict_of (chain_at s n) ≡ Ok hyper
   pub there : known (places_at s n) number ≡ true
   pub short : period_of s number ≤ 10000
 
@@ -72,43 +66,43 @@ module _ (s : Schedule) (n number bound : ℕ) where
   pub passed_answer : Passed s n number → phase_from s n number bound ≡ smallest_of (keeps_bound s n number bound) (period_of s number)
   unfolding phase_after
   passed_answer k =
-      choice_answers s n Refused _ k.chosen
+      choice_answers s n Err _ k.chosen
       ∙ rw (k.accepted, k.there, le-leb (period_of s number) 10000 k.short)
 
   -- and where it is no refusal, they pass.
-  answer_passed : (p : Phase) → ((r : Refusal) → Refused r ≡ p → ⊥) → phase_from s n number bound ≡ p → Passed s n number
+  answer_passed : (p : Result (Option ℕ) Refusal) → ((r : Refusal) → Err r ≡ p → ⊥) → phase_from s n number bound ≡ p → Passed s n number
   unfolding phase_after
   answer_passed p other e =
-      let c = answer_chosen s n Refused _ p other e in
-      go c (verdict_of (chain_at s n)) refl (sym (choice_answers s n Refused _ c) ∙ e)
+      let c = answer_chosen s n Err _ p other e in
+      go c (verdict_of (chain_at s n)) refl (sym (choice_answers s n Err _ c) ∙ e)
     where
-      go : (choice_of s n).number ≡ 0 → (v : Verdict) → verdict_of (chain_at s n) ≡ v → phase_after s n number bound v ≡ p → Passed s n number
-      go c (verdict.Refused r) f h = absurd (other r h)
-      go c (verdict.Accepted x) f h = judge (known (places_at s n) number) refl (leb (period_of s number) 10000) refl h
+      go : (choice_of s n).number ≡ 0 → (v : Result ℕ Refusal) → verdict_of (chain_at s n) ≡ v → phase_after s n number bound v ≡ p → Passed s n number
+      go c (Err r) f h = absurd (other r h)
+      go c (Ok x) f h = judge (known (places_at s n) number) refl (leb (period_of s number) 10000) refl h
         where
           judge : (b : Bool) → known (places_at s n) number ≡ b → (d : Bool) → leb (period_of s number) 10000 ≡ d
-              → cond b (cond d (smallest_of (keeps_bound s n number bound) (period_of s number)) (Refused (refusal 20 0))) (Refused (refusal 19 0)) ≡ p → Passed s n number
+              → cond b (cond d (smallest_of (keeps_bound s n number bound) (period_of s number)) (Err (refusal 20 0))) (Err (refusal 19 0)) ≡ p → Passed s n number
           judge true q true w h = record { chosen = c; hyper = x; accepted = f; there = q; short = leb-true (period_of s number) 10000 w }
           judge true q false w h = absurd (other (refusal 20 0) h)
           judge false q d w h = absurd (other (refusal 19 0) h)
 
-  no_refusal_of : (F : ℕ) (r : Refusal) → Refused r ≡ Of F → ⊥
+  no_refusal_of : (F : ℕ) (r : Refusal) → Err r ≡ Ok (Some F) → ⊥
   no_refusal_of F r h = let z : ◌≡◌ {A = ℕ} 0 1 = cc in omega arith
 
-  no_refusal_none : (r : Refusal) → Refused r ≡ Nothing → ⊥
+  no_refusal_none : (r : Refusal) → ◌≡◌ {A = Result (Option ℕ) Refusal} (Err r) (Ok None) → ⊥
   no_refusal_none r h = let z : ◌≡◌ {A = ℕ} 0 1 = cc in omega arith
 
   -- "the smallest phase from 0 to period − 1 with which the chain's greatest latency is at most the bound",
-  pub smallest_phase : (F : ℕ) → (phase_from s n number bound ≡ Of F) ↔ (Passed s n number × SmallestPhase (keeps_bound s n number bound) (period_of s number) F)
+  pub smallest_phase : (F : ℕ) → (phase_from s n number bound ≡ Ok (Some F)) ↔ (Passed s n number × SmallestPhase (keeps_bound s n number bound) (period_of s number) F)
   smallest_phase F = (
-    λ e. let k = answer_passed (Of F) (no_refusal_of F) e in (k, found_smallest (keeps_bound s n number bound) (period_of s number) F (sym (passed_answer k) ∙ e)),
+    λ e. let k = answer_passed (Ok (Some F)) (no_refusal_of F) e in (k, found_smallest (keeps_bound s n number bound) (period_of s number) F (sym (passed_answer k) ∙ e)),
     λ p. passed_answer p.0 ∙ smallest_found (keeps_bound s n number bound) (period_of s number) F p.1,
   )
 
   -- "or `none` exactly when there is no such phase."
-  pub none_exactly : (phase_from s n number bound ≡ Nothing) ↔ (Passed s n number × NoPhase (keeps_bound s n number bound) (period_of s number))
+  pub none_exactly : (phase_from s n number bound ≡ Ok None) ↔ (Passed s n number × NoPhase (keeps_bound s n number bound) (period_of s number))
   none_exactly = (
-    λ e. let k = answer_passed Nothing no_refusal_none e in (k, none_smallest (keeps_bound s n number bound) (period_of s number) (sym (passed_answer k) ∙ e)),
+    λ e. let k = answer_passed (Ok None) no_refusal_none e in (k, none_smallest (keeps_bound s n number bound) (period_of s number) (sym (passed_answer k) ∙ e)),
     λ p. passed_answer p.0 ∙ none_there (keeps_bound s n number bound) (period_of s number) p.1,
   )
 
@@ -136,8 +130,8 @@ module _ (s : Schedule) (a : Arrays s) (n number : ℕ) (k : Passed s n number) 
       record { press = g.at; warm = g.late; late = omega (arith, g.meets, leb-false (greatest_latency (tasks_of c)) bound e) }
 
   -- and every completed table of the chain has that greatest latency.
-  pub table_keeps : (p : ℕ) (starts latencies starts' latencies' : List ℕ) (f : Figures) → Makes c p starts latencies starts' latencies' (Whole f)
-      → greatest_of starts' latencies' f.anchors f.hyperperiod ≡ Latency (greatest_latency (tasks_of c))
+  pub table_keeps : (p : ℕ) (starts latencies starts' latencies' : List ℕ) (f : Figures) → Makes c p starts latencies starts' latencies' (Ok f)
+      → greatest_of starts' latencies' f.anchors f.hyperperiod ≡ Ok (greatest_latency (tasks_of c))
   table_keeps p starts latencies starts' latencies' f makes =
       table_greatest c (chosen_twelve (moved s number F) n (moved_arrays s number F a) (ap (λ (r : Refusal). r.number) (moved_choice s number F n a small k.chosen))) p starts latencies starts' latencies' f makes
 
@@ -231,7 +225,7 @@ module _ (s : Schedule) (a : Arrays s) (n number bound : ℕ) (k : Passed s n nu
   phase_remainder F h = test_remainder (keeps_bound s n number bound) 1000001 T (λ E g. later E (omega arith)) F (omega arith)
 
 -- So where `none` is answered, no permitted phase keeps the bound.
-pub none_at_all : (s : Schedule) → Arrays s → (n number bound : ℕ) → phase_from s n number bound ≡ Nothing → (F : ℕ) → F ≤ 1000000 → keeps_bound s n number bound F ≡ false
+pub none_at_all : (s : Schedule) → Arrays s → (n number bound : ℕ) → phase_from s n number bound ≡ Ok None → (F : ℕ) → F ≤ 1000000 → keeps_bound s n number bound F ≡ false
 none_at_all s a n number bound e F h =
     let w = (none_exactly s n number bound).0 e in
     phase_remainder s a n number bound w.0 F h ∙ w.1 (F % period_of s number) (mod-lt F (some s a n number bound w.0))

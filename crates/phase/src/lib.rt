@@ -15,20 +15,11 @@ ghost use Rattle.phase.specs.Phases.{phase_from};
 ghost use Rattle.phase.specs.MovedTasks.{moved_at};
 ghost use Rattle.phase.specs.InList.{AcceptedList, Filled, OthersDivide, Begun, Finds, judged_in, phase_in};
 
-use chain::{Chain, Verdict};
+use chain::Chain;
 use latency::Greatest;
 use refusal::Refusal;
 use schedule::{Route, Schedule};
-use schedule_checks::Chosen;
 use task::{Job, Place};
-
-// The smallest phase, or none; or the refusal.
-#[derive(Clone, Copy)]
-pub enum Phase {
-    Of(u64),
-    Nothing,
-    Refused(Refusal),
-}
 
 // Where a search of phases ended, at the number of phases where none keeps the bound, and how many partitions were walked in all.
 #[derive(Clone, Copy)]
@@ -42,13 +33,9 @@ fn put_phase(tasks: &mut [u64], places: &[u64], number: u64, phase: u64)
     requires { (length places.now ≤ 12) × (length places.now ≡ length (given_in tasks.old)) }
     ensures { given_in tasks.new ≡ moved_at number phase places.now (given_in tasks.old) }
 {
-    let mut i: usize = 0;
-    while i < places.len() {
-        if places[i] == number {
+    for (i, place) in places.iter().enumerate() {
+        if *place == number {
             tasks[3 * i + 2] = phase;
-            i += 1;
-        } else {
-            i += 1;
         }
     }
 }
@@ -59,14 +46,10 @@ fn others_multiple(tasks: &[u64], gap: u64, places: &[u64], number: u64) -> u64
     ensures { OthersDivide number places.now (given_in tasks.now) result }
 {
     let mut multiple: u64 = 1;
-    let mut i: usize = 0;
-    while i < places.len() {
-        if places[i] == number {
-            i += 1;
-        } else {
+    for (i, place) in places.iter().enumerate() {
+        if *place != number {
             let a = chain::task_at(tasks, gap, i);
             multiple = euclid::lcm(multiple, a.period);
-            i += 1;
         }
     }
     multiple
@@ -99,8 +82,7 @@ fn try_phases(
     let mut at: u64 = 0;
     let mut stride: u64 = 0;
     let mut walked: u64 = 0;
-    let mut phase: u64 = 0;
-    while phase < phases {
+    for phase in 0..phases {
         put_phase(tasks, places, number, phase);
         let start = turned(at + stride, n);
         let found = latency::walk_range_from(
@@ -120,7 +102,6 @@ fn try_phases(
         let end = turned(start + (found.walked - 1), n);
         stride = turned(end + (n - at), n);
         at = end;
-        phase += 1;
     }
     Tried {
         phase: phases,
@@ -186,45 +167,48 @@ fn search_period(
 }
 
 // 19, a task that is not in the chain; 20, a period above 10,000; then the search.
-fn judged(tasks: &mut [u64], gap: u64, places: &[u64], number: u64, h: u64, bound: u64) -> Phase
+fn judged(
+    tasks: &mut [u64],
+    gap: u64,
+    places: &[u64],
+    number: u64,
+    h: u64,
+    bound: u64,
+) -> Result<Option<u64>, Refusal>
     requires { (AcceptedList gap places.now (given_in tasks.old)) × (Filled places.now (given_in tasks.old)) × (h ≡ hyper_of (tasks_in gap tasks.old)) }
     ensures { result ≡ judged_in gap places.now (given_in tasks.old) number bound }
 {
-    let at = schedule::find(places, places.len(), number);
-    if places.len() <= at {
-        return Phase::Refused(Refusal {
-            number: 19,
-            place: 0,
-        });
-    }
+    let Some(at) = schedule::find(places, number) else {
+        return Err(Refusal::TASK_NOT_IN_CHAIN);
+    };
     let t = chain::task_at(tasks, gap, at);
     if 10000 < t.period {
-        return Phase::Refused(Refusal {
-            number: 20,
-            place: 0,
-        });
+        return Err(Refusal::PERIOD_TOO_LONG);
     }
     let found = search_period(tasks, gap, places, at, h, bound);
     if found.phase < t.period {
-        return Phase::Of(found.phase);
+        return Ok(Some(found.phase));
     }
-    Phase::Nothing
+    Ok(None)
 }
 
 // The list's own checks first.
-fn phase_on(tasks: &mut [u64], gap: u64, places: &[u64], number: u64, bound: u64) -> Phase
+fn phase_on(
+    tasks: &mut [u64],
+    gap: u64,
+    places: &[u64],
+    number: u64,
+    bound: u64,
+) -> Result<Option<u64>, Refusal>
     requires { Filled places.now (given_in tasks.old) }
     ensures { result ≡ phase_in gap places.now (given_in tasks.old) number bound }
 {
-    let v = chain::check_on(tasks, gap);
-    match v {
-        Verdict::Refused(r) => Phase::Refused(r),
-        Verdict::Accepted(h) => judged(tasks, gap, places, number, h, bound),
-    }
+    let h = chain::check_on(tasks, gap)?;
+    judged(tasks, gap, places, number, h, bound)
 }
 
 // Of a chain by value, and the numbers of the tasks at its places.
-fn phase_in(c: Chain, places: [u64; 12], number: u64, bound: u64) -> Phase
+fn phase_in(c: Chain, places: [u64; 12], number: u64, bound: u64) -> Result<Option<u64>, Refusal>
     requires { (c.places ≤ 12) × Filled (take c.places places) (given_of c) }
     ensures { result ≡ phase_in c.gap (take c.places places) (given_of c) number bound }
 {
@@ -235,15 +219,15 @@ fn phase_in(c: Chain, places: [u64; 12], number: u64, bound: u64) -> Phase
 }
 
 // The smallest phase of the task with a number with which chain n, counted from 1, has no latency above the bound; refusals 8, 5, 6 and 16 of the schedule, then 7, 19 and 20.
-pub fn smallest_phase(s: Schedule, n: usize, number: u64, bound: u64) -> Phase
+pub fn smallest_phase(
+    s: Schedule,
+    n: usize,
+    number: u64,
+    bound: u64,
+) -> Result<Option<u64>, Refusal>
     ensures { result ≡ phase_from s n number bound }
 {
-    let c = schedule_checks::chain_number(s, n);
-    let r = c.refusal;
-    if r.number != 0 {
-        return Phase::Refused(r);
-    }
+    let c = schedule_checks::chain_number(s, n)?;
     let route = s.routes[n - 1];
-    let places = route.places;
-    phase_in(c.chain, places, number, bound)
+    phase_in(c, route.places, number, bound)
 }

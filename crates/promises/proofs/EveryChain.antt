@@ -2,7 +2,7 @@
 -- no press by any of its chains, from that chain's warm-up tick on, waits longer than the chain's bound (`meets_delay`), and the latencies are those of the chains (`judged_latency`, `judged_past`).
 use Prim.Native.Nat.{ℕ, zero, suc, ◌-◌, ◌≤◌, ◌<◌}
 use native.Mathlib.Omega.{arith}
-use Rattle.std.specs.Prelude.{◌≡◌, ◌↔◌, Bool, cond, List, [], ◌∷◌, get_or, take}
+use Rattle.std.specs.Prelude.{◌≡◌, ◌↔◌, Bool, cond, List, [], ◌∷◌, get_or, take, Err, Ok}
 use Rattle.std.proofs.Math.Path.{refl, ap}
 use Rattle.std.proofs.Common.{sym, ◌∙◌, get_or-take, length-take-le}
 use Rattle.std.proofs.Math.Bool.{true, false}
@@ -13,7 +13,6 @@ use borrow.Author.Tests.{le-leb, leb-true, eqb-true, eqb-false}
 use Rattle.refusal.specs.declared.Refusal.{Refusal}
 use Rattle.refusal.specs.Refusals.{refusal, none}
 use Rattle.chain.specs.declared.Chain.{Chain}
-use Rattle.chain.specs.declared.Verdict.TheVariants as verdict
 use Rattle.chain.specs.Chains.{tasks_of}
 use Rattle.chain.specs.Checks.{hyper_verdict, verdict_of}
 use Rattle.chain.specs.Hyperperiod.{hyper_of}
@@ -32,8 +31,7 @@ use Rattle.latency.specs.GreatestDelay.{greatest_latency_is}
 use Rattle.bounded.specs.declared.Bounded.{Bounded}
 use Rattle.bounded.specs.Bounded.{bounds_in, pairwise}
 use Rattle.bounded.specs.Cleared.{BoundedArrays}
-use Rattle.promises.specs.declared.Judged.{Judged}
-use Rattle.promises.specs.Promises.{chains_of, after_verdict, hyper_refusal, checks_of, chain_latency, greatest_in, latencies_of, within_bounds, refused_with, judged_of}
+use Rattle.promises.specs.Promises.{Judged, chains_of, after_verdict, hyper_refusal, checks_of, chain_latency, greatest_in, latencies_of, within_bounds, refused_with, judged_of}
 
 -- ---- the chains of a schedule
 
@@ -63,7 +61,7 @@ none_refused [] d h i g = absurd (omega arith)
 none_refused (c ∷ cs) d h i g = go (leb (hyper_of (tasks_of c)) 60000000) refl h i g (none_refused cs d)
   where
     go : (b : Bool) → leb (hyper_of (tasks_of c)) 60000000 ≡ b
-        → (after_verdict (cond b (verdict.Accepted (hyper_of (tasks_of c))) (verdict.Refused (refusal 7 0))) (hyper_refusal cs)).number ≡ 0
+        → (after_verdict (cond b (Ok (hyper_of (tasks_of c))) (Err (refusal 7 0))) (hyper_refusal cs)).number ≡ 0
         → (i : ℕ) → i < length (c ∷ cs) → ((hyper_refusal cs).number ≡ 0 → (k : ℕ) → k < length cs → hyper_of (tasks_of (get_or cs k d)) ≤ 60000000)
         → hyper_of (tasks_of (get_or (c ∷ cs) i d)) ≤ 60000000
     go true e h zero g r = leb-true (hyper_of (tasks_of c)) 60000000 e
@@ -96,7 +94,7 @@ module _ (s : Schedule) (a : Arrays s) (fine : (checks_of s).number ≡ 0) (n : 
       rw (chain_numbered s (n - 1), m) at (none_refused (chains_of s) (no_chain s) (checks_parts s fine).1 (n - 1) (omega (arith, chains_counted s a k.few_chains)))
 
   -- so each chain is accepted.
-  pub checks_accepted : verdict_of (chain_at s n) ≡ verdict.Accepted (hyper_of (tasks_of (chain_at s n)))
+  pub checks_accepted : verdict_of (chain_at s n) ≡ Ok (hyper_of (tasks_of (chain_at s n)))
   unfolding hyper_verdict
   checks_accepted =
       sound_chain s a (checks_sound s fine) n low high ∙ rw (le-leb (hyper_of (tasks_of (chain_at s n))) 60000000 checks_hyper)

@@ -14,8 +14,7 @@ use Rattle.schedule_checks.proofs.SameSchedule.{SameSchedule, fault_same}
 use Rattle.bounded.specs.declared.Bounded.{Bounded}
 use Rattle.bounded.specs.Bounded.{bounds_in, pairwise, cleared_schedule, cleared}
 use Rattle.bounded.specs.Cleared.{BoundedArrays, cleared_same, bounds_stay}
-use Rattle.promises.specs.declared.Judged.{Judged}
-use Rattle.promises.specs.Promises.{chains_of, hyper_refusal, checks_of, chain_latency, refused_with, judged_of}
+use Rattle.promises.specs.Promises.{Judged, chains_of, hyper_refusal, checks_of, chain_latency, refused_with, judged_of}
 
 -- the chains by what is looked at: the numbers of places and the task numbers of each
 chains_by : ℕ → List NumberedTask → List ℕ → List (List ℕ) → List Chain

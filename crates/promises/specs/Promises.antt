@@ -1,11 +1,9 @@
 -- Order 10 of document 02: "After the schedule's own checks (8, 5 and 6 as in order 1, then 7 chain by chain) ask refuses a latency above its bound with 21". What that says of a schedule with bounds, and the
 -- greatest latencies that an ask gives. What it means for presses is said in EveryChain.
-use Rattle.std.specs.Prelude.{ℕ, Bool, cond, List, [], ◌∷◌, map, leb, eqb, replicate}
+use Rattle.std.specs.Prelude.{ℕ, Bool, cond, List, [], ◌∷◌, map, leb, eqb, replicate, Err, Ok, Result}
 use Rattle.refusal.specs.declared.Refusal.{Refusal}
 use Rattle.refusal.specs.Refusals.{refusal, none}
 use Rattle.chain.specs.declared.Chain.{Chain}
-use Rattle.chain.specs.declared.Verdict.{Verdict}
-use Rattle.chain.specs.declared.Verdict.TheVariants as verdict
 use Rattle.chain.specs.Chains.{tasks_of}
 use Rattle.chain.specs.Checks.{hyper_verdict}
 use Rattle.schedule.specs.declared.Schedule.{Schedule}
@@ -14,16 +12,15 @@ use Rattle.schedule_checks.specs.Checks.{fault_of}
 use Rattle.latency.specs.Latency.{greatest_latency}
 use Rattle.bounded.specs.declared.Bounded.{Bounded}
 use Rattle.bounded.specs.Bounded.{bounds_in, pairwise}
-use Rattle.promises.specs.declared.Judged.{Judged}
 
 -- The chains of a schedule, in their order.
 abbrev pub chains_of : Schedule → List Chain
 chains_of s = map (chain_of s.gap (tasks_in s)) (routes_in s)
 
 -- What a verdict refuses, or else r.
-abbrev pub after_verdict : Verdict → Refusal → Refusal
-after_verdict (verdict.Refused q) r = q
-after_verdict (verdict.Accepted h) r = r
+abbrev pub after_verdict : Result ℕ Refusal → Refusal → Refusal
+after_verdict (Err q) r = q
+after_verdict (Ok h) r = r
 
 -- "7 chain by chain": the first chain whose hyperperiod is above its limit; number 0 at place 0 where there is none.
 unfoldable pub hyper_refusal : List Chain → Refusal
@@ -48,6 +45,15 @@ latencies_of s = padded 4 0 (greatest_in s)
 -- No latency is "above its bound"; "Bounds beyond the chain count are not looked at."
 abbrev pub within_bounds : Bounded → Bool
 within_bounds b = pairwise leb (greatest_in b.schedule) (bounds_in b)
+
+-- What is said of a schedule with bounds: the refusal, number 0 at place 0 where every bound is kept, and the latencies.
+pub record Judged : Type 0 where
+  pub refusal : Refusal
+  pub latencies : List ℕ
+
+-- As an answer: the latencies, or the refusal.
+abbrev pub answered : Judged → Result (List ℕ) Refusal
+answered j = cond (eqb j.refusal.number 0) (Ok j.latencies) (Err j.refusal)
 
 -- A refusal has zeros.
 abbrev pub refused_with : Refusal → Judged

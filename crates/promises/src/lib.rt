@@ -4,70 +4,47 @@
 #![tactic(auto)]
 
 ghost use Rattle.std.specs.Prelude.{◌≡◌, leb, length, ◌<◌};
-ghost use Rattle.chain.specs.declared.Verdict.TheVariants as verdict;
 ghost use Rattle.chain.specs.Chains.{tasks_of};
 ghost use Rattle.chain.specs.Hyperperiod.{hyper_of};
 ghost use Rattle.chain.specs.Checks.{verdict_of};
-ghost use Rattle.schedule_checks.specs.Checks.{fault_of};
+ghost use Rattle.schedule_checks.specs.Checks.{fault_of, passed};
 ghost use Rattle.latency.specs.Latency.{greatest_latency};
 ghost use Rattle.bounded.specs.Bounded.{pairwise};
-ghost use Rattle.promises.specs.Promises.{chains_of, hyper_refusal, checks_of, latencies_of, refused_with, judged_of};
+ghost use Rattle.promises.specs.Promises.{chains_of, hyper_refusal, checks_of, latencies_of, answered, judged_of};
 
 use bounded::Bounded;
-use chain::{Chain, Verdict};
+use chain::Chain;
 use refusal::Refusal;
-use schedule::{Route, Schedule};
-
-// The greatest latency of each chain, in their order, with 0 past the chains. The refusal is number 0 at place 0 where every bound is kept; in a refusal all latencies are 0.
-#[derive(Clone, Copy)]
-pub struct Judged {
-    pub refusal: Refusal,
-    pub latencies: [u64; 4],
-}
+use schedule::Schedule;
 
 // ---- the checks
 
 // 7 chain by chain, of a schedule that passed its own checks.
-fn hyper_refusal(s: Schedule) -> Refusal
+fn check_hyperperiods(s: Schedule) -> Result<(), Refusal>
     requires { (fault_of s).number ≡ 0 }
-    ensures { result ≡ hyper_refusal (chains_of s) }
+    ensures { result ≡ passed (hyper_refusal (chains_of s)) }
 {
-    let mut i: usize = 0;
-    while i < s.chains {
-        let route = s.routes[i];
-        let c = schedule::chain_of(s, route);
-        let v = chain::check(c);
-        match v {
-            Verdict::Refused(r) => {
-                return r;
-            }
-            Verdict::Accepted(_) => {
-                i += 1;
-            }
-        }
+    for i in 0..s.chains {
+        let c = schedule::chain_of(s, s.routes[i]);
+        chain::check(c)?;
     }
-    Refusal {
-        number: 0,
-        place: 0,
-    }
+    Ok(())
 }
 
-// 8, 5 and 6 of the schedule, then 7 chain by chain; number 0 at place 0 where nothing is refused.
-fn checks_of(s: Schedule) -> Refusal
-    ensures { result ≡ checks_of s }
+// 8, 5 and 6 of the schedule, then 7 chain by chain.
+#[tactic(auto, using(crate::proofs::Turns::fault_first, crate::proofs::Turns::then_hyper))]
+fn check(s: Schedule) -> Result<(), Refusal>
+    ensures { result ≡ passed (checks_of s) }
 {
-    let r = schedule_checks::fault_of(s);
-    if r.number != 0 {
-        return r;
-    }
-    hyper_refusal(s)
+    schedule_checks::check(s)?;
+    check_hyperperiods(s)
 }
 
 // ---- the latencies
 
 // The greatest latency of a chain that passed its checks.
 fn latency_of(c: Chain) -> u64
-    requires { verdict_of c ≡ verdict.Accepted (hyper_of (tasks_of c)) }
+    requires { verdict_of c ≡ Ok (hyper_of (tasks_of c)) }
     ensures { result ≡ greatest_latency (tasks_of c) }
 {
     let tasks = chain::flat(c);
@@ -81,12 +58,9 @@ fn latencies_of(s: Schedule) -> [u64; 4]
     ensures { result ≡ latencies_of s }
 {
     let mut latencies = [0u64; 4];
-    let mut i: usize = 0;
-    while i < s.chains {
-        let route = s.routes[i];
-        let c = schedule::chain_of(s, route);
+    for i in 0..s.chains {
+        let c = schedule::chain_of(s, s.routes[i]);
         latencies[i] = latency_of(c);
-        i += 1;
     }
     latencies
 }
@@ -96,49 +70,22 @@ fn at_most_each(numbers: &[u64], limits: &[u64]) -> bool
     requires { length numbers.now ≡ length limits.now }
     ensures { result ≡ pairwise leb numbers.now limits.now }
 {
-    let mut i: usize = 0;
-    while i < numbers.len() {
-        if limits[i] < numbers[i] {
-            return false;
-        }
-        i += 1;
-    }
-    true
+    numbers
+        .iter()
+        .zip(limits)
+        .all(|(number, limit)| number <= limit)
 }
 
 // ---- the judge
 
-fn refused(r: Refusal) -> Judged
-    ensures { result ≡ refused_with r }
+// The greatest latency of each chain, in their order, with 0 past the chains; or what is refused: 8, 5 and 6 of the schedule, 7 chain by chain, 21 where a latency is above its bound.
+pub fn judge(b: Bounded) -> Result<[u64; 4], Refusal>
+    ensures { result ≡ answered (judged_of b) }
 {
-    Judged {
-        refusal: r,
-        latencies: [0u64; 4],
+    check(b.schedule)?;
+    let latencies = latencies_of(b.schedule);
+    if at_most_each(&latencies, &b.bounds) {
+        return Ok(latencies);
     }
-}
-
-// The greatest latencies, or what is refused: 8, 5 and 6 of the schedule, 7 chain by chain, 21 where a latency is above its bound.
-pub fn judge(b: Bounded) -> Judged
-    ensures { result ≡ judged_of b }
-{
-    let schedule = b.schedule;
-    let bounds = b.bounds;
-    let r = checks_of(schedule);
-    if r.number != 0 {
-        return refused(r);
-    }
-    let latencies = latencies_of(schedule);
-    if at_most_each(&latencies, &bounds) {
-        return Judged {
-            refusal: Refusal {
-                number: 0,
-                place: 0,
-            },
-            latencies,
-        };
-    }
-    refused(Refusal {
-        number: 21,
-        place: 0,
-    })
+    Err(Refusal::ABOVE_BOUND)
 }

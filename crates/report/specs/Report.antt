@@ -1,25 +1,26 @@
 -- Document 01, program `chainreport`, with order 1 of document 02: the whole text for the bytes of a schedule file.
-use Rattle.std.specs.Prelude.{ℕ, zero, suc, ◌≤◌, ◌≡◌, cond, List, [], ◌∷◌, ◌++◌, eqb, length}
+use Rattle.std.specs.Prelude.{ℕ, zero, suc, ◌≤◌, ◌≡◌, List, [], ◌∷◌, ◌++◌, length, Err, Ok, Result}
+use Rattle.maker.specs.declared.Unmade.TheVariants.{Refused, Short}
+use Rattle.maker.specs.declared.Unmade.{Unmade}
+use Rattle.maker.specs.declared.Figures.{Figures}
+use Rattle.refusal.specs.declared.Refusal.{Refusal}
 use Rattle.refusal.specs.Refusals.{refusal}
 use Rattle.chain.specs.declared.Chain.{Chain}
 use Rattle.chain.specs.Chains.{tasks_of}
 use Rattle.schedule.specs.declared.Schedule.{Schedule}
 use Rattle.schedule.specs.Schedules.{chain_at}
-use Rattle.file_reader.specs.declared.FileRead.{FileRead}
 use Rattle.file_reader.specs.Reading.{read_file}
 use Rattle.table.specs.Anchors.{Anchor}
-use Rattle.maker.specs.declared.Made.{Made}
-use Rattle.maker.specs.declared.Made.TheVariants.{Whole, Short, Refused}
 use Rattle.maker.specs.Making.{made_of, written_of, overlay}
 use Rattle.latency.specs.LongestPlace.{longest_place}
 use Rattle.text.specs.Text.{ascii, line}
 use Rattle.table_text.specs.TableText.{refused_text, text_of_table}
 
 -- What making answered. Where the slots do not hold all anchors the one line is that of 11, which has no place.
-unfoldable pub made_text : Made → List Anchor → List ℕ
-made_text (Whole f) l = text_of_table f l
-made_text (Short f) l = refused_text (refusal 11 0)
-made_text (Refused r) l = refused_text r
+unfoldable pub made_text : Result Figures Unmade → List Anchor → List ℕ
+made_text (Ok f) l = text_of_table f l
+made_text (Err (Short f)) l = refused_text (refusal 11 0)
+made_text (Err (Refused r)) l = refused_text r
 
 -- A chain is cut at the longest period and made with so many slots.
 unfoldable pub chain_text : ℕ → Chain → List ℕ
@@ -39,8 +40,9 @@ unfoldable pub schedule_text : ℕ → Schedule → List ℕ
 schedule_text slots s = parts_text slots s 1 s.chains
 
 -- A file that is read has the text of its chains, each made with 1,024 slots; else the one line of the refusal.
-unfoldable pub file_text : FileRead → List ℕ
-file_text r = cond (eqb r.refusal.number 0) (schedule_text 1024 r.schedule) (refused_text r.refusal)
+unfoldable pub file_text : Result Schedule Refusal → List ℕ
+file_text (Ok s) = schedule_text 1024 s
+file_text (Err r) = refused_text r
 
 -- The whole text for the bytes of a file.
 abbrev pub report_of : List ℕ → List ℕ

@@ -8,7 +8,7 @@ ghost use Rattle.table_text.specs.TableText.{longest_table};
 ghost use Rattle.report.specs.Report.{chain_text, part_text, schedule_text, Reports};
 
 use chain::Chain;
-use maker::Made;
+use maker::Unmade;
 use refusal::Refusal;
 use schedule::Schedule;
 
@@ -28,16 +28,9 @@ fn put_chain(
     let p = latency::longest_place(&tasks[..n], c.gap);
     let m = maker::make_table_on(&tasks[..n], c.gap, p, starts, latencies);
     match m {
-        Made::Refused(r) => table_text::put_refusal(out, at, r),
-        Made::Short(_) => table_text::put_refusal(
-            out,
-            at,
-            Refusal {
-                number: 11,
-                place: 0,
-            },
-        ),
-        Made::Whole(f) => table_text::put_table(out, at, f, starts, latencies),
+        Err(Unmade::Refused(r)) => table_text::put_refusal(out, at, r),
+        Err(Unmade::Short(_)) => table_text::put_refusal(out, at, Refusal::LISTS_TOO_SHORT),
+        Ok(f) => table_text::put_table(out, at, f, starts, latencies),
     }
 }
 
@@ -63,18 +56,9 @@ fn put_schedule(out: &mut [u8], s: Schedule, starts: &mut [u64], latencies: &mut
     ensures { (Puts (schedule_text 1024 s) 0 out.old out.new result) × (result ≤ 92000) }
 {
     let mut at: usize = 0;
-    let mut i: usize = 0;
-    while i < s.chains {
-        let r = s.routes[i];
-        i += 1;
-        at = put_part(
-            out,
-            at,
-            i as u64,
-            schedule::chain_of(s, r),
-            starts,
-            latencies,
-        );
+    for i in 0..s.chains {
+        let c = schedule::chain_of(s, s.routes[i]);
+        at = put_part(out, at, i as u64 + 1, c, starts, latencies);
     }
     at
 }
@@ -84,12 +68,10 @@ fn put_schedule(out: &mut [u8], s: Schedule, starts: &mut [u64], latencies: &mut
 pub fn report(bytes: &[u8], out: &mut [u8]) -> usize
     ensures { Reports bytes.now out.old out.new result }
 {
-    let read = file_reader::read_file(bytes);
-    let refusal = read.refusal;
-    if refusal.number != 0 {
-        return table_text::put_refusal(out, 0, refusal);
-    }
-    let s = read.schedule;
+    let s = match file_reader::read_file(bytes) {
+        Ok(s) => s,
+        Err(r) => return table_text::put_refusal(out, 0, r),
+    };
     let mut starts = [0u64; 1024];
     let mut latencies = [0u64; 1024];
     put_schedule(out, s, &mut starts, &mut latencies)

@@ -1,25 +1,21 @@
 -- Demand 2: a schedule file has one spelling. Writing after reading returns the file (`write_after_read`), reading after writing returns the schedule
 -- (`read_after_write`), and every file that reading accepts is the file of exactly one schedule: of the one that was read (`read_arrays`, `spelt_again`, `written_again`), and of no other (`one_schedule`).
-use Rattle.std.specs.Prelude.{ℕ, zero, suc, ◌≤◌, ◌<◌, ◌≡◌, cond, eqb, length, get_or, take}
+use Rattle.std.specs.Prelude.{ℕ, zero, suc, ◌≤◌, ◌<◌, ◌≡◌, length, get_or, take, Ok, Result}
 use Rattle.std.proofs.Common.{arith, sym, ◌∙◌, length-take-le, get_or-take, le-leb}
 use Rattle.std.proofs.Math.Path.{refl, ap}
 use mathlib.Core.List.{List, [], ◌∷◌, ◌++◌, map}
 use Rattle.std.proofs.Math.ListN.{drop}
 use Rattle.std.proofs.lemmas.List.{length-map}
 use Rattle.refusal.specs.declared.Refusal.{Refusal}
-use Rattle.refusal.specs.Refusals.{refusal, none}
 use Rattle.little_endian.specs.LittleEndian.{Bytes}
 use Rattle.schedule.specs.declared.NumberedTask.{NumberedTask}
 use Rattle.schedule.specs.declared.Schedule.{Schedule}
 use Rattle.schedule.specs.declared.Route.{Route}
-use Rattle.schedule.specs.Schedules.{number_of, tasks_in, places_of, routes_in, chains_in, padded, zero_numbered, no_route, empty_route, route_of, schedule_of, empty_schedule}
+use Rattle.schedule.specs.Schedules.{number_of, tasks_in, places_of, routes_in, chains_in, padded, zero_numbered, no_route, empty_route, route_of, schedule_of}
 use Rattle.schedule.specs.Arrays.{Arrays}
 use Rattle.schedule.specs.Padding.{take_padded, length_padded, padded_at}
 use Rattle.schedule_checks.proofs.SoundSchedule.{SoundSchedule, no_refusal}
-use Rattle.file_reader.specs.declared.FileRead.{FileRead}
 use Rattle.file_reader.specs.Reading.{read_file}
-use Rattle.file_writer.specs.declared.Written.{Written}
-use Rattle.file_writer.specs.declared.Written.TheVariants as written
 use Rattle.file_writer.specs.FileBytes.{file_of, file_bytes}
 use Rattle.file_writer.specs.Writing.{left_bytes, length_verdict, written_of}
 use Rattle.file_writer.specs.Accepted.{accepted, sound_written}
@@ -92,11 +88,11 @@ route_at (r ∷ rs) zero h = refl
 route_at (r ∷ rs) (suc c) h = route_at rs c (omega arith)
 
 -- Reading what was written returns the schedule.
-pub read_after_write : (s : Schedule) (lent n : ℕ) → Arrays s → written_of s lent ≡ written.Bytes n → read_file (file_bytes s) ≡ record { refusal = none; schedule = cleared s }
+pub read_after_write : (s : Schedule) (lent n : ℕ) → Arrays s → written_of s lent ≡ Ok n → read_file (file_bytes s) ≡ Ok (cleared s)
 read_after_write s lent n a h = read_of_file (tasks_in s) (chains_in s) s.gap (right_of s a (accepted s lent n h).is_sound)
 
 -- It is the same schedule: it has the same tasks, the same chains, the same counts and the same gap.
-pub cleared_parts : (s : Schedule) (lent n : ℕ) → Arrays s → written_of s lent ≡ written.Bytes n
+pub cleared_parts : (s : Schedule) (lent n : ℕ) → Arrays s → written_of s lent ≡ Ok n
     → (tasks_in (cleared s) ≡ tasks_in s) × (chains_in (cleared s) ≡ chains_in s) × ((cleared s).count ≡ s.count) × ((cleared s).chains ≡ s.chains) × ((cleared s).gap ≡ s.gap)
 cleared_parts s lent n a h =
     let w = (accepted s lent n h).is_sound in
@@ -113,14 +109,14 @@ right_places : (ts : List NumberedTask) (chs : List (List ℕ)) (g : ℕ) → Ri
 right_places ts chs g r c h = rw (padded_at empty_route 4 (map route_of chs) c no_route h) (routes_few (map number_of ts) chs r.placed c)
 
 -- So of the schedule that is returned: its arrays have their lengths and its routes few places,
-pub cleared_arrays : (s : Schedule) (lent n : ℕ) → Arrays s → written_of s lent ≡ written.Bytes n
+pub cleared_arrays : (s : Schedule) (lent n : ℕ) → Arrays s → written_of s lent ≡ Ok n
     → (Arrays (cleared s)) × ((c : ℕ) → c < 4 → (get_or (cleared s).routes c no_route).count ≤ 12)
 cleared_arrays s lent n a h =
     let r = right_of s a (accepted s lent n h).is_sound in
     (right_arrays (tasks_in s) (chains_in s) s.gap r, right_places (tasks_in s) (chains_in s) s.gap r)
 
 -- and each of its routes has the places of the schedule's own.
-pub cleared_places : (s : Schedule) (lent n : ℕ) → Arrays s → written_of s lent ≡ written.Bytes n → (c : ℕ) → c < s.chains
+pub cleared_places : (s : Schedule) (lent n : ℕ) → Arrays s → written_of s lent ≡ Ok n → (c : ℕ) → c < s.chains
     → get_or (cleared s).routes c no_route ≡ route_of (places_of (get_or s.routes c no_route))
 cleared_places s lent n a h c g =
     let w = (accepted s lent n h).is_sound in
@@ -132,54 +128,51 @@ cleared_places s lent n a h c g =
 pub cleared_same : (ts : List NumberedTask) (chs : List (List ℕ)) (g : ℕ) → Right ts chs g → cleared (schedule_of ts chs g) ≡ schedule_of ts chs g
 cleared_same ts chs g r = rw (take_padded zero_numbered 32 ts r.few, routes_back ts chs g r)
 
--- Of a file that reading accepts: its refusal number is 0.
-module _ (b : List ℕ) (is : Bytes b) (fine : (read_file b).refusal.number ≡ 0) where
-  ends : Ends b (read_file b)
-  ends = file_of_read b is fine
+-- Of a file that reading accepts.
+module _ (b : List ℕ) (is : Bytes b) (s : Schedule) (fine : read_file b ≡ Ok s) where
+  ends : Ends b s
+  ends = file_of_read b is s fine
 
-  in_schedule : (read_file b).schedule ≡ schedule_of ends.tasks ends.chains ends.gap
-  in_schedule = ap (λ (r : FileRead). r.schedule) ends.is
+  in_tasks : tasks_in s ≡ ends.tasks
+  in_tasks = ap tasks_in ends.is ∙ take_padded zero_numbered 32 ends.tasks ends.right.few
 
-  in_tasks : tasks_in (read_file b).schedule ≡ ends.tasks
-  in_tasks = ap tasks_in in_schedule ∙ take_padded zero_numbered 32 ends.tasks ends.right.few
-
-  in_chains : chains_in (read_file b).schedule ≡ ends.chains
-  in_chains = ap chains_in in_schedule ∙ routes_back ends.tasks ends.chains ends.gap ends.right
+  in_chains : chains_in s ≡ ends.chains
+  in_chains = ap chains_in ends.is ∙ routes_back ends.tasks ends.chains ends.gap ends.right
 
   -- The file of the schedule that was read is the file that was read,
-  pub spelt_again : file_bytes (read_file b).schedule ≡ b
+  pub spelt_again : file_bytes s ≡ b
   spelt_again =
-      let s : Schedule = (read_file b).schedule in
       ap (λ (ts : List NumberedTask). file_of ts (chains_in s) s.gap) in_tasks ∙ ap (λ (chs : List (List ℕ)). file_of ends.tasks chs s.gap) in_chains
-      ∙ ap (λ (x : Schedule). file_of ends.tasks ends.chains x.gap) in_schedule ∙ ends.spelt
+      ∙ ap (λ (x : Schedule). file_of ends.tasks ends.chains x.gap) ends.is ∙ ends.spelt
 
   -- the schedule is sound,
-  pub read_sound : SoundSchedule (read_file b).schedule
-  read_sound = rw in_schedule (right_sound ends.tasks ends.chains ends.gap ends.right)
+  pub read_sound : SoundSchedule s
+  read_sound = rw ends.is (right_sound ends.tasks ends.chains ends.gap ends.right)
 
   -- so what writing it answers depends on the lent bytes alone.
-  pub written_again : (lent : ℕ) → written_of (read_file b).schedule lent ≡ length_verdict (length b) lent
+  pub written_again : (lent : ℕ) → written_of s lent ≡ length_verdict (length b) lent
   written_again lent =
-      let s : Schedule = (read_file b).schedule in
       sound_written s lent (ap (λ (r : Refusal). r.number) (no_refusal s read_sound)) ∙ ap (λ (f : List ℕ). length_verdict (length f) lent) spelt_again
 
   -- Writing what was read returns the file byte for byte: into lent bytes that are long enough.
   pub write_after_read : (old : List ℕ) → length b ≤ length old
-      → (written_of (read_file b).schedule (length old) ≡ written.Bytes (length b))
-      × (left_bytes (written_of (read_file b).schedule (length old)) (file_bytes (read_file b).schedule) old ≡ b ++ drop (length b) old)
+      → (written_of s (length old) ≡ Ok (length b))
+      × (left_bytes (written_of s (length old)) (file_bytes s) old ≡ b ++ drop (length b) old)
   unfolding length_verdict
   write_after_read old h =
-      let w : written_of (read_file b).schedule (length old) ≡ written.Bytes (length b) = written_again (length old) ∙ rw (le-leb (length b) (length old) h) refl in
-      (w, ap (λ (x : Written). left_bytes x (file_bytes (read_file b).schedule) old) w ∙ ap (λ (f : List ℕ). f ++ drop (length f) old) spelt_again)
+      let w : written_of s (length old) ≡ Ok (length b) = written_again (length old) ∙ rw (le-leb (length b) (length old) h) refl in
+      (w, ap (λ (x : Result ℕ Refusal). left_bytes x (file_bytes s) old) w ∙ ap (λ (f : List ℕ). f ++ drop (length f) old) spelt_again)
 
   -- It is the file of the schedule that was read, which writing accepts,
-  pub read_arrays : Arrays (read_file b).schedule
-  read_arrays = rw in_schedule (right_arrays ends.tasks ends.chains ends.gap ends.right)
+  pub read_arrays : Arrays s
+  read_arrays = rw ends.is (right_arrays ends.tasks ends.chains ends.gap ends.right)
 
   -- of which every route has at most twelve places, those past the chains too,
-  pub read_places : (c : ℕ) → c < 4 → (get_or (read_file b).schedule.routes c no_route).count ≤ 12
-  read_places = rw in_schedule (right_places ends.tasks ends.chains ends.gap ends.right)
+  pub read_places : (c : ℕ) → c < 4 → (get_or s.routes c no_route).count ≤ 12
+  read_places = rw ends.is (right_places ends.tasks ends.chains ends.gap ends.right)
 
   -- and of no other.
-  pub one_schedule : (s : Schedule) (lent n : ℕ) → Arrays s → written_of s lent ≡ written.Bytes n → file_bytes s ≡ b → cleared s ≡ (read_file b).schedule
-  one_schedule s lent n a w e = ap (λ (r : FileRead). r.schedule) (sym (read_after_write s lent n a w) ∙ ap read_file e)
+  pub one_schedule : (t : Schedule) (lent n : ℕ) → Arrays t → written_of t lent ≡ Ok n → file_bytes t ≡ b → cleared t ≡ s
+  one_schedule t lent n a w e =
+      let k : ◌≡◌ {A = Result Schedule Refusal} (Ok (cleared t)) (Ok s) = sym (read_after_write t lent n a w) ∙ ap read_file e ∙ fine in
+      cc

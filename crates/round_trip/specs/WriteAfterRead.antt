@@ -1,20 +1,22 @@
 -- Writing what was read gives the file back, byte for byte.
-use Rattle.std.specs.Prelude.{ℕ, zero, suc, ◌+◌, ◌*◌, ◌≤◌, ◌≡◌, refl, Bool, cond, length}
+use Rattle.std.specs.Prelude.{ℕ, zero, suc, ◌+◌, ◌*◌, ◌≤◌, ◌≡◌, refl, length, Err, Ok, Result}
 use Rattle.std.proofs.Common.{arith, ◌∙◌, length-append, lt-ltb, le-ltb}
 use Rattle.std.proofs.Math.Decide.{dec_lt}
 use Rattle.std.proofs.Math.Path.{sym, ap}
 use mathlib.Core.List.{List, [], ◌∷◌, ◌++◌, map, append_assoc, append-nil}
 use Rattle.std.proofs.Math.ListN.{drop}
 use Rattle.std.proofs.lemmas.List.{length-map}
+use Rattle.file_reader.specs.declared.Record.TheVariants.{Chain, End, Gap, Task}
+use Rattle.file_reader.specs.declared.Record.{Record}
+use Rattle.refusal.specs.declared.Refusal.{Refusal}
+use Rattle.refusal.specs.Refusals.{refusal}
 use Rattle.little_endian.specs.LittleEndian.{Bytes}
 use Rattle.little_endian.proofs.Fields.{bytes_drop}
 use Rattle.task.specs.Jobs.{gap_limit}
 use Rattle.schedule.specs.declared.NumberedTask.{NumberedTask}
-use Rattle.schedule.specs.Schedules.{number_of}
-use Rattle.file_reader.specs.declared.Record.{Record}
-use Rattle.file_reader.specs.declared.Record.TheVariants.{Task, Chain, Gap, End, Fault}
-use Rattle.file_reader.specs.declared.FileRead.{FileRead}
-use Rattle.file_reader.specs.Reading.{chain_field, record_of, refused_file, accepted_file, after_record, read_from, read_file}
+use Rattle.schedule.specs.declared.Schedule.{Schedule}
+use Rattle.schedule.specs.Schedules.{number_of, schedule_of}
+use Rattle.file_reader.specs.Reading.{chain_field, record_of, after_record, read_from, read_file}
 use Rattle.file_reader.proofs.Records.{IsTask, IsChain, IsGap, IsEnd, Tells, tells, length_numbers}
 use Rattle.file_writer.specs.FileBytes.{task_bytes, tasks_bytes, chain_bytes, chains_bytes, gap_bytes, file_of}
 use Rattle.file_writer.proofs.Lengths.{no_gap}
@@ -44,11 +46,11 @@ record SoFar (ts : List NumberedTask) (chs : List (List ℕ)) (g : ℕ) : Type 0
   chained : 1 ≤ g → 1 ≤ length chs
 
 -- Where reading ends well: with which tasks, chains and gap, and that `file` is their file.
-pub record Ends (file : List ℕ) (r : FileRead) : Type 0 where
+pub record Ends (file : List ℕ) (s : Schedule) : Type 0 where
   pub tasks : List NumberedTask
   pub chains : List (List ℕ)
   pub gap : ℕ
-  pub is : r ≡ accepted_file tasks chains gap
+  pub is : s ≡ schedule_of tasks chains gap
   pub spelt : file_of tasks chains gap ≡ file
   pub right : Right tasks chains gap
 
@@ -63,8 +65,11 @@ unfolding chains_bytes
 chains_snoc [] ch = append-nil (chain_bytes ch)
 chains_snoc (x ∷ chs) ch = ap (λ (l : List ℕ). chain_bytes x ++ l) (chains_snoc chs ch) ∙ sym (append_assoc (chain_bytes x) (chains_bytes chs) (chain_bytes ch))
 
-not_refused : {A : Type 0} (k : ℕ) → 1 ≤ k → k ≡ 0 → A
-not_refused k h e = absurd (omega arith)
+not_refused : {A : Type 0} (r : Refusal) (s : Schedule) → Err r ≡ Ok s → A
+not_refused r s e = absurd cc
+
+was_accepted : (s t : Schedule) → ◌≡◌ {A = Result Schedule Refusal} (Ok s) (Ok t) → t ≡ s
+was_accepted s t e = cc
 
 -- ---- one record
 
@@ -154,39 +159,39 @@ module _ (ts : List NumberedTask) (chs : List (List ℕ)) (g : ℕ) (l : List �
 
 -- ---- all records
 
-read_ends : (n : ℕ) (ts : List NumberedTask) (chs : List (List ℕ)) (g at : ℕ) (l file : List ℕ) → Bytes l → SoFar ts chs g → before ts chs g ++ l ≡ file
-    → (read_from n ts chs g at l).refusal.number ≡ 0 → Ends file (read_from n ts chs g at l)
+read_ends : (n : ℕ) (ts : List NumberedTask) (chs : List (List ℕ)) (g at : ℕ) (l file : List ℕ) (s : Schedule) → Bytes l → SoFar ts chs g → before ts chs g ++ l ≡ file
+    → read_from n ts chs g at l ≡ Ok s → Ends file s
 unfolding read_from after_record
-read_ends zero ts chs g at l file is ok e h = not_refused 1 (omega arith) h
-read_ends (suc n) ts chs g at l file is ok e h =
+read_ends zero ts chs g at l file s is ok e h = not_refused (refusal 1 at) s h
+read_ends (suc n) ts chs g at l file s is ok e h =
     go (record_of (map number_of ts) (length chs) g l) (tells (map number_of ts) (length chs) g l (record_of (map number_of ts) (length chs) g l) refl) h
-    (λ ts' chs' g' at' l'. read_ends n ts' chs' g' at' l' file)
+    (λ ts' chs' g' at' l'. read_ends n ts' chs' g' at' l' file s)
   where
-    go : (r : Record) → Tells (map number_of ts) (length chs) g l r → (after_record (read_from n) ts chs g at l r).refusal.number ≡ 0
-        → ((ts' : List NumberedTask) (chs' : List (List ℕ)) (g' at' : ℕ) (l' : List ℕ) → Bytes l' → SoFar ts' chs' g' → before ts' chs' g' ++ l' ≡ file → (read_from n ts' chs' g' at' l').refusal.number ≡ 0 → Ends file (read_from n ts' chs' g' at' l'))
-        → Ends file (after_record (read_from n) ts chs g at l r)
-    go (Task t) i k on =
+    go : (r : Result Record ℕ) → Tells (map number_of ts) (length chs) g l r → after_record (read_from n) ts chs g at l r ≡ Ok s
+        → ((ts' : List NumberedTask) (chs' : List (List ℕ)) (g' at' : ℕ) (l' : List ℕ) → Bytes l' → SoFar ts' chs' g' → before ts' chs' g' ++ l' ≡ file → read_from n ts' chs' g' at' l' ≡ Ok s → Ends file s)
+        → Ends file s
+    go (Ok (Task t)) i k on =
         on (ts ++ (t ∷ [])) chs g (at + 18) (drop 18 l) (bytes_drop l 18 is) (task_far ts chs g l is ok t i) (task_spelt ts chs g l is ok t i ∙ e) k
-    go (Chain p) i k on =
+    go (Ok (Chain p)) i k on =
         on ts (chs ++ (chain_field l p ∷ [])) g (at + (4 + 2 * p)) (drop (4 + 2 * p) l) (bytes_drop l (4 + 2 * p) is) (chain_far ts chs g l is ok p i) (chain_spelt ts chs g l is ok p i ∙ e) k
-    go (Gap v) i k on = on ts chs v (at + 6) (drop 6 l) (bytes_drop l 6 is) (gap_far ts chs g l is ok v i) (gap_spelt ts chs g l is ok v i ∙ e) k
-    go End i k on = elim (dec_lt 4 (length l)) [
-      | yes a ↦ not_refused 4 (omega arith) (rw (lt-ltb 4 (length l) a) at k)
+    go (Ok (Gap v)) i k on = on ts chs v (at + 6) (drop 6 l) (bytes_drop l 6 is) (gap_far ts chs g l is ok v i) (gap_spelt ts chs g l is ok v i ∙ e) k
+    go (Ok End) i k on = elim (dec_lt 4 (length l)) [
+      | yes a ↦ not_refused (refusal 4 (at + 4)) s (rw (lt-ltb 4 (length l) a) at k)
       | no a ↦ record {
         tasks = ts;
         chains = chs;
         gap = g;
-        is = ap (λ (b : Bool). cond b (refused_file 4 (at + 4)) (accepted_file ts chs g)) (le-ltb 4 (length l) (omega arith));
+        is = was_accepted (schedule_of ts chs g) s (rw (le-ltb 4 (length l) (omega arith)) at k);
         spelt = end_spelt ts chs g l is ok i (omega arith) ∙ e;
         right = end_right ts chs g l is ok i.chain;
       }
     ]
-    go (Fault k') i k on = not_refused k' i.0 k
+    go (Err k') i k on = not_refused (refusal k' at) s k
 
--- A file that reading accepts, with refusal number 0, is the file of the tasks, the chains and the gap that reading ends with.
-pub file_of_read : (b : List ℕ) → Bytes b → (read_file b).refusal.number ≡ 0 → Ends b (read_file b)
+-- A file that reading accepts is the file of the tasks, the chains and the gap that reading ends with.
+pub file_of_read : (b : List ℕ) → Bytes b → (s : Schedule) → read_file b ≡ Ok s → Ends b s
 unfolding tasks_bytes chains_bytes gap_bytes
-file_of_read b is h = read_ends (length b) [] [] 0 0 b b is start refl h
+file_of_read b is s h = read_ends (length b) [] [] 0 0 b b s is start refl h
   where
     start : SoFar [] [] 0
     start = record { few = omega arith; tasks_right = fault_none 1 0; few_chains = omega arith; placed = no_chain_holds; some = λ k. absurd (omega arith); permitted = omega arith; chained = λ k. absurd (omega arith) }

@@ -1,6 +1,7 @@
 -- The numbers of tasks: a number is known exactly where it has a position, and its task stands there.
-use Rattle.std.specs.Prelude.{ℕ, suc, ◌≤◌, ◌<◌, ◌≡◌, refl, Bool, true, false, cond, List, [], ◌∷◌, map, eqb, length, get_or}
-use Rattle.std.proofs.Common.{arith, eq-eqb, ne_eqb}
+use Rattle.std.specs.Prelude.{ℕ, suc, ◌+◌, ◌≤◌, ◌<◌, ◌≡◌, refl, Bool, true, false, not, cond, List, [], ◌∷◌, map, eqb, ltb, length, get_or, position, is_some, None, Option, Some}
+use Rattle.std.specs.List.{position_or_len}
+use Rattle.std.proofs.Common.{arith, sym, eq-eqb, ne_eqb, ltb-true, ltb-false}
 use Rattle.schedule.specs.declared.NumberedTask.{NumberedTask}
 use Rattle.schedule.specs.Schedules.{number_of, position_of, known, task_numbered, zero_numbered}
 
@@ -46,3 +47,39 @@ position_past n m l e = rw (ne_eqb m n e)
 pub position_none : (n : ℕ) → position_of n [] ≡ 0
 unfolding position_of
 position_none n = refl
+
+-- ---- std's word for that search, `position`, which answers an Option
+
+position_or_len_is : (n : ℕ) (l : List ℕ) → position_or_len (λ m. eqb m n) l ≡ position_of n l
+unfolding position_of
+position_or_len_is n [] = refl
+position_or_len_is n (m ∷ l) = go (eqb m n) (position_or_len_is n l)
+  where
+    go : (b : Bool) → position_or_len (λ m. eqb m n) l ≡ position_of n l → cond (not b) (1 + position_or_len (λ m. eqb m n) l) 0 ≡ cond b 0 (suc (position_of n l))
+    go true k = refl
+    go false k = omega (arith, k)
+
+module _ (n : ℕ) (l : List ℕ) where
+  pub position_some : (i : ℕ) → Some i ≡ position (λ m. eqb m n) l → (i ≡ position_of n l) × (i < length l)
+  position_some i e = go (ltb (position_or_len (λ m. eqb m n) l) (length l)) refl e
+    where
+      go : (b : Bool) → ltb (position_or_len (λ m. eqb m n) l) (length l) ≡ b → Some i ≡ cond b (Some (position_or_len (λ m. eqb m n) l)) None → (i ≡ position_of n l) × (i < length l)
+      go true k h =
+          let same : i ≡ position_or_len (λ m. eqb m n) l = cc in
+          (omega (arith, same, position_or_len_is n l), omega (arith, same, ltb-true _ _ k))
+      go false k h = absurd cc
+
+  pub position_lost : ◌≡◌ {A = Option ℕ} None (position (λ m. eqb m n) l) → length l ≤ position_of n l
+  position_lost e = go (ltb (position_or_len (λ m. eqb m n) l) (length l)) refl e
+    where
+      go : (b : Bool) → ltb (position_or_len (λ m. eqb m n) l) (length l) ≡ b → ◌≡◌ {A = Option ℕ} None (cond b (Some (position_or_len (λ m. eqb m n) l)) None) → length l ≤ position_of n l
+      go true k h = absurd cc
+      go false k h = omega (arith, ltb-false _ _ k, position_or_len_is n l)
+
+  -- a number is known exactly where the search finds it
+  pub search_known : is_some (position (λ m. eqb m n) l) ≡ known l n
+  search_known = go (position (λ m. eqb m n) l) refl
+    where
+      go : (o : Option ℕ) → o ≡ position (λ m. eqb m n) l → is_some o ≡ known l n
+      go (Some i) e = let k = position_some i e in sym (known_position l n (omega (arith, k.0, k.1)))
+      go None e = sym (unknown_position l n (position_lost e))

@@ -1,8 +1,8 @@
 -- The two parts of a choice: its refusal, and its chain where there is none.
-use Rattle.std.specs.Prelude.{ℕ, ◌≤◌, ◌≡◌, Bool, cond, length}
+use Rattle.std.specs.Prelude.{ℕ, ◌≤◌, ◌≡◌, Bool, cond, length, Ok, Err, Result}
 use native.Mathlib.Omega.{arith}
 use Rattle.std.proofs.Math.Decide.{dec_lt}
-use Rattle.std.proofs.Math.Path.{refl, sym, ap}
+use Rattle.std.proofs.Math.Path.{refl, ap}
 use Rattle.std.proofs.Common.{◌∙◌}
 use Rattle.std.proofs.Math.Bool.{true, false}
 use Rattle.std.proofs.Math.Dec.{eqb}
@@ -13,27 +13,38 @@ use Rattle.chain.specs.declared.Chain.{Chain}
 use Rattle.schedule.specs.declared.Schedule.{Schedule}
 use Rattle.schedule.specs.Schedules.{chain_at}
 use Rattle.schedule.specs.Arrays.{Arrays}
-use Rattle.schedule_checks.specs.declared.Chosen.{Chosen}
-use Rattle.schedule_checks.specs.Checks.{count_right, fault_of, choice_of, none_chosen, chosen_of, after_choice}
+use Rattle.schedule_checks.specs.Checks.{count_right, fault_of, passed, choice_of, chosen_of, after_choice}
+use Rattle.schedule_checks.proofs.Passed.{refused_passed}
 use Rattle.schedule_checks.proofs.SoundSchedule.{SoundSchedule, sound, no_refusal, count_right_holds, right_count}
 use Rattle.schedule_checks.proofs.SoundChain.{sound_twelve}
 
 module _ (s : Schedule) (n : ℕ) where
-  pub chosen_refusal : (chosen_of s n).refusal ≡ choice_of s n
-  unfolding chosen_of
-  chosen_refusal = go (eqb (choice_of s n).number 0)
-    where
-      go : (b : Bool) → (cond b (record { refusal = choice_of s n; chain = chain_at s n }) (none_chosen (choice_of s n))).refusal ≡ choice_of s n
-      go true = refl
-      go false = refl
-
-  pub chosen_chain : (choice_of s n).number ≡ 0 → (chosen_of s n).chain ≡ chain_at s n
+  pub chosen_chain : (choice_of s n).number ≡ 0 → chosen_of s n ≡ Ok (chain_at s n)
   unfolding chosen_of
   chosen_chain h = rw (eq-eqb (choice_of s n).number 0 h)
 
-  pub none_chosen_holds : ((choice_of s n).number ≡ 0 → ⊥) → chosen_of s n ≡ none_chosen (choice_of s n)
+  pub none_chosen_holds : ((choice_of s n).number ≡ 0 → ⊥) → chosen_of s n ≡ Err (choice_of s n)
   unfolding chosen_of
   none_chosen_holds h = rw (ne_eqb (choice_of s n).number 0 h)
+
+  -- The chain or the refusal that was answered.
+  pub is_chosen : (c : Chain) → Ok c ≡ chosen_of s n → ((choice_of s n).number ≡ 0) × (c ≡ chain_at s n)
+  unfolding chosen_of
+  is_chosen c e = go (eqb (choice_of s n).number 0) refl e
+    where
+      go : (b : Bool) → eqb (choice_of s n).number 0 ≡ b → ◌≡◌ {A = Result Chain Refusal} (Ok c) (cond b (Ok (chain_at s n)) (Err (choice_of s n)))
+          → ((choice_of s n).number ≡ 0) × (c ≡ chain_at s n)
+      go true k h = let i : c ≡ chain_at s n = cc in (eqb-true (choice_of s n).number 0 k, i)
+      go false k h = absurd cc
+
+  pub is_refused : (r : Refusal) → Err r ≡ chosen_of s n → ((choice_of s n).number ≡ 0 → ⊥) × (r ≡ choice_of s n)
+  unfolding chosen_of
+  is_refused r e = go (eqb (choice_of s n).number 0) refl e
+    where
+      go : (b : Bool) → eqb (choice_of s n).number 0 ≡ b → ◌≡◌ {A = Result Chain Refusal} (Err r) (cond b (Ok (chain_at s n)) (Err (choice_of s n)))
+          → ((choice_of s n).number ≡ 0 → ⊥) × (r ≡ choice_of s n)
+      go true k h = absurd cc
+      go false k h = let i : r ≡ choice_of s n = cc in (eqb-false (choice_of s n).number 0 k, i)
 
   -- A chain is chosen exactly where the schedule is sound and the number is one of its chains'; then the code is 0.
   pub choice_sound : (choice_of s n).number ≡ 0 → (SoundSchedule s) × (1 ≤ n) × (n ≤ s.chains)
@@ -68,23 +79,18 @@ module _ (s : Schedule) (n : ℕ) where
   ]
 
   -- Where the schedule is refused, nothing is chosen.
-  pub fault_answers : {A : Type 0} (refused : Refusal → A) (answer : Chain → A) (r : Refusal) → r ≡ fault_of s → (r.number ≡ 0 → ⊥) → refused r ≡ after_choice s n refused answer
+  pub fault_answers : {A : Type 0} (refused : Refusal → A) (answer : Chain → A) (r : Refusal) → Err r ≡ passed (fault_of s) → refused r ≡ after_choice s n refused answer
   unfolding after_choice choice_of
-  fault_answers refused answer r is h =
-      let e : (fault_of s).number ≡ 0 → ⊥ = λ z. h (ap (λ (x : Refusal). x.number) is ∙ z) in
-      ap refused is ∙ rw (ne_eqb (fault_of s).number 0 e, ne_eqb (fault_of s).number 0 e)
+  fault_answers refused answer r h =
+      let p = refused_passed (fault_of s) r h in
+      ap refused p.0 ∙ rw (ne_eqb (fault_of s).number 0 p.1, ne_eqb (fault_of s).number 0 p.1)
 
   -- What an analysis answers, by what was chosen.
-  module _ {A : Type 0} (refused : Refusal → A) (answer : Chain → A) (c : Chosen) (is : c ≡ chosen_of s n) where
-    number : c.refusal.number ≡ (choice_of s n).number
-    number = ap (λ (x : Chosen). x.refusal.number) is ∙ ap (λ (r : Refusal). r.number) chosen_refusal
-
-    pub choice_refused : (c.refusal.number ≡ 0 → ⊥) → refused c.refusal ≡ after_choice s n refused answer
+  module _ {A : Type 0} (refused : Refusal → A) (answer : Chain → A) where
+    pub choice_refused : (r : Refusal) → Err r ≡ chosen_of s n → refused r ≡ after_choice s n refused answer
     unfolding after_choice
-    choice_refused h = ap refused (ap (λ (x : Chosen). x.refusal) is ∙ chosen_refusal) ∙ rw (ne_eqb (choice_of s n).number 0 (λ z. h (number ∙ z)))
+    choice_refused r e = let k = is_refused r e in ap refused k.1 ∙ rw (ne_eqb (choice_of s n).number 0 k.0)
 
-    pub choice_made : c.refusal.number ≡ 0 → answer c.chain ≡ after_choice s n refused answer
+    pub choice_made : (c : Chain) → Ok c ≡ chosen_of s n → answer c ≡ after_choice s n refused answer
     unfolding after_choice
-    choice_made h =
-        let e : (choice_of s n).number ≡ 0 = sym number ∙ h in
-        ap answer (ap (λ (x : Chosen). x.chain) is ∙ chosen_chain e) ∙ rw (eq-eqb (choice_of s n).number 0 e)
+    choice_made c e = let k = is_chosen c e in ap answer k.1 ∙ rw (eq-eqb (choice_of s n).number 0 k.0)

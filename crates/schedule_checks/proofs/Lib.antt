@@ -1,4 +1,5 @@
 pub mod Faults
+pub mod Passed
 pub mod Choice
 pub mod SoundSchedule
 pub mod SoundChain

@@ -1,17 +1,15 @@
 -- Order 1 of document 02: "An analysis from a schedule first checks 8 (number of chains too), 5 and 6 as in writing, chains in order, 6 with the position in its chain.
 -- A chain number not in the schedule is then refused with 16". Order 5: "A call given a gap above 1,000 refuses it as 5 at place 0, after the tasks."
 -- One judge of a schedule, and one choice of a chain.
-use Rattle.std.specs.Prelude.{ℕ, zero, suc, ◌+◌, Bool, true, false, cond, ◌&&◌, List, [], ◌∷◌, map, leb, eqb, replicate}
+use Rattle.std.specs.Prelude.{ℕ, zero, suc, ◌+◌, Bool, true, false, cond, ◌&&◌, List, [], ◌∷◌, map, leb, eqb, Ok, Err, Result}
 use Rattle.refusal.specs.declared.Refusal.{Refusal}
 use Rattle.refusal.specs.Refusals.{refusal, none}
 use Rattle.task.specs.Jobs.{gap_limit}
 use Rattle.chain.specs.declared.Chain.{Chain}
-use Rattle.chain.specs.Chains.{zero_task}
 use Rattle.schedule.specs.declared.NumberedTask.{NumberedTask}
 use Rattle.schedule.specs.declared.Route.{Route}
 use Rattle.schedule.specs.declared.Schedule.{Schedule}
 use Rattle.schedule.specs.Schedules.{number_of, tasks_in, routes_in, chains_in, task_rule, known, chain_at}
-use Rattle.schedule_checks.specs.declared.Chosen.{Chosen}
 
 -- A count from 1 to its limit.
 unfoldable pub count_right : ℕ → ℕ → Bool
@@ -65,17 +63,17 @@ fault_of s =
     (fault_at 6 (unknown_place (map number_of (tasks_in s)) (chains_in s)) none)))
     (refusal 8 0)
 
+-- What a check answers by that: nothing, or the refusal.
+abbrev pub passed : Refusal → Result (Unit {0}) Refusal
+passed r = cond (eqb r.number 0) (Ok tt) (Err r)
+
 -- Then 16, a chain number that is not in the schedule.
 unfoldable pub choice_of : Schedule → ℕ → Refusal
 choice_of s n = cond (eqb (fault_of s).number 0) (cond (count_right n s.chains) none (refusal 16 0)) (fault_of s)
 
--- A refusal has a chain of zeros.
-abbrev pub none_chosen : Refusal → Chosen
-none_chosen r = record { refusal = r; chain = record { tasks = replicate 12 zero_task; places = 0; gap = 0 } }
-
--- The chain with the number n.
-unfoldable pub chosen_of : Schedule → ℕ → Chosen
-chosen_of s n = cond (eqb (choice_of s n).number 0) (record { refusal = choice_of s n; chain = chain_at s n }) (none_chosen (choice_of s n))
+-- The chain with the number n, or the refusal.
+unfoldable pub chosen_of : Schedule → ℕ → Result Chain Refusal
+chosen_of s n = cond (eqb (choice_of s n).number 0) (Ok (chain_at s n)) (Err (choice_of s n))
 
 -- What an analysis from a schedule answers: the refusal of the choice, or else the answer of the chain that was chosen.
 unfoldable pub after_choice : {A : Type 0} → Schedule → ℕ → (Refusal → A) → (Chain → A) → A

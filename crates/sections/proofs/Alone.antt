@@ -1,16 +1,14 @@
 -- "Makers of one board know only their section": whoever has section i alone, with the chain's gap, and asks with no cut, is not refused and is answered entry i of what is answered of the whole
 -- (`each_alone` of lists of tasks; `chain_alone` of what the call answers of any chain that such a section stands for).
-use Rattle.std.specs.Prelude.{ℕ, zero, suc, ◌+◌, ◌-◌, ◌≤◌, ◌<◌, ◌≡◌, refl, true, List, [], ◌∷◌, map, length, take, drop, get_or}
+use Rattle.std.specs.Prelude.{ℕ, zero, suc, ◌+◌, ◌-◌, ◌≤◌, ◌<◌, ◌≡◌, refl, true, List, [], ◌∷◌, map, length, take, drop, get_or, Ok}
 use Rattle.std.proofs.Common.{arith, sym, ap, ◌∙◌, subst, length-drop}
 use Rattle.std.proofs.lemmas.List.{length-map}
 use Rattle.std.proofs.Math.ListN.{get_or-map}
-use Rattle.refusal.specs.Refusals.{none}
 use Rattle.task.specs.declared.Task.{Task}
 use Rattle.task.specs.declared.Place.{Place}
 use Rattle.task.specs.Jobs.{place_of, Within, Limited, gap_limit}
 use Rattle.task.proofs.LinkLaws.{limits_hold}
 use Rattle.chain.specs.declared.Chain.{Chain}
-use Rattle.chain.specs.declared.Verdict.TheVariants.{Accepted}
 use Rattle.chain.specs.Chains.{given_of, placed, zero_task}
 use Rattle.chain.specs.Placed.{at_placed}
 use Rattle.chain.specs.Hyperperiod.{hyper_of}
@@ -72,7 +70,7 @@ module _ (g : ℕ) (l : List Task) (k : Cuttable g (placed g l)) where
       let w : Limited (place_of g (get_or l p zero_task)) = subst Limited (at_placed g l p h) (k.uniform.sound.each p (omega (arith, counted))) in
       record { period_pos = w.period_pos; period_max = w.period_max; duration_pos = w.duration_pos; duration_max = w.duration_max; phase_max = w.phase_max }
 
-  accepts : verdict_in g l ≡ Accepted (hyper_of (placed g l))
+  accepts : verdict_in g l ≡ Ok (hyper_of (placed g l))
   accepts =
       let ok = k.uniform.sound in
       let permitted : g ≤ gap_limit = omega (arith, (ok.each 0 ok.some).gap_max, k.uniform.gaps 0 ok.some) in
@@ -81,12 +79,12 @@ module _ (g : ℕ) (l : List Task) (k : Cuttable g (placed g l)) where
       ∙ check_hyper (length l) g l (omega (arith, ok.some, counted)) (omega (arith, ok.few, counted)) (sym (no_fault l 1 within)) permitted)
 
   -- so with no cut it is answered its greatest latency
-  alone : sections_in g l [] ≡ answered g (placed g l) []
+  alone : sections_in g l [] ≡ Ok (answered g (placed g l) [])
   unfolding sections_after rises_to
   alone = rw accepts
 
-  alone_sum : (sections_in g l []).sum ≡ greatest_latency (placed g l)
-  alone_sum = ap (λ (s : Sections). s.sum) alone ∙ whole_sum g (placed g l) k.uniform
+  alone_sum : (answered g (placed g l) []).sum ≡ greatest_latency (placed g l)
+  alone_sum = whole_sum g (placed g l) k.uniform
 
 -- ---- and answered what the whole has in its place
 
@@ -106,22 +104,24 @@ module _ (g : ℕ) (l : List Task) (cuts : List ℕ) (k : Cuttable g (placed g l
   cuttable : Cuttable g (placed g section)
   cuttable = subst (Cuttable g) same (parts_cuttable g cuts (length (placed g l)) 0 (placed g l) k (omega arith) valid i h)
 
-  pub each_alone : ((sections_in g section []).refusal ≡ none) × ((sections_in g section []).sum ≡ get_or (latencies_of (placed g l) cuts) i 0)
+  pub each_alone : (sections_in g section [] ≡ Ok (answered g (placed g section) [])) × ((answered g (placed g section) []).sum ≡ get_or (latencies_of (placed g l) cuts) i 0)
   each_alone = (
-    ap (λ (s : Sections). s.refusal) (alone g section cuttable),
+    alone g section cuttable,
     alone_sum g section cuttable ∙ sym (entry_of greatest_latency (sections_of (placed g l) cuts) i [] (omega (arith, sections_count cuts 0 (placed g l))) ∙ ap greatest_latency same),
   )
 
--- Of what the call answers: d is a chain for which section i stands, as the chain of its tasks and the same gap.
-pub chain_alone : (c : Chain) → length c.tasks ≡ 12 → (cuts : List ℕ) → (sections_answer c cuts).refusal.number ≡ 0 → (i : ℕ) → i < (sections_answer c cuts).count
-    → (d : Chain) → StandsFor c.gap (get_or (sections_of (given_of c) cuts) i []) d
-    → ((sections_answer d []).refusal ≡ none) × ((sections_answer d []).sum ≡ get_or (sections_answer c cuts).latencies i 0)
-chain_alone c twelve cuts fine i h d st =
-    let k = is_answered c twelve cuts fine in
-    let few = few_cuts _ cuts 0 k.ok.uniform.sound.some k.valid in
-    let n : i < suc (length cuts) = omega (arith, ap (λ (s : Sections). s.count) k.is, sections_count cuts 0 (placed c.gap (given_of c))) in
-    let w = each_alone c.gap (given_of c) cuts k.ok k.valid i n in
-    let e = sections_stands c.gap (get_or (sections_of (given_of c) cuts) i []) d st [] in (
-      ap (λ (s : Sections). s.refusal) (sym e) ∙ w.0,
-      ap (λ (s : Sections). s.sum) (sym e) ∙ w.1 ∙ sym (ap (λ (s : Sections). get_or s.latencies i 0) k.is ∙ padded_at 0 12 _ i 0 (omega (arith, few, k.ok.uniform.sound.few))),
-    )
+-- Of what the call answers: d is a chain for which section i of the answer s stands, as the chain of its tasks and the same gap.
+module _ (c : Chain) (twelve : length c.tasks ≡ 12) (cuts : List ℕ) (s : Sections) (fine : sections_answer c cuts ≡ Ok s) (i : ℕ) (h : i < s.count) where
+  abbrev part : List Task
+  part = get_or (sections_of (given_of c) cuts) i []
+
+  pub chain_alone : (d : Chain) → StandsFor c.gap part d
+      → (sections_answer d [] ≡ Ok (answered c.gap (placed c.gap part) [])) × ((answered c.gap (placed c.gap part) []).sum ≡ get_or s.latencies i 0)
+  chain_alone d st =
+      let k = is_answered c twelve cuts s fine in
+      let few = few_cuts _ cuts 0 k.ok.uniform.sound.some k.valid in
+      let n : i < suc (length cuts) = omega (arith, ap (λ (x : Sections). x.count) k.is, sections_count cuts 0 (placed c.gap (given_of c))) in
+      let w = each_alone c.gap (given_of c) cuts k.ok k.valid i n in (
+        sym (sections_stands c.gap part d st []) ∙ w.0,
+        w.1 ∙ sym (ap (λ (x : Sections). get_or x.latencies i 0) k.is ∙ padded_at 0 12 _ i 0 (omega (arith, few, k.ok.uniform.sound.few))),
+      )

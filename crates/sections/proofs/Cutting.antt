@@ -16,7 +16,6 @@ use Rattle.schedule.specs.Padding.{padded_none, padded_set}
 use Rattle.latency.specs.Latency.{greatest_latency}
 use Rattle.latency.specs.GreatestDelay.{greatest_fits}
 use Rattle.sections.specs.declared.Sections.{Sections}
-use Rattle.sections.specs.Sections as sections
 use Rattle.sections.specs.Sections.{parts_from, sections_of, rises_to, latencies_of, sum_of, answered}
 use Rattle.sections.specs.Uniform.{Cuttable, section_cuttable}
 use Rattle.sections.proofs.CutLaws.{sections_count, Rising, rising}
@@ -128,7 +127,7 @@ module _ (g : ℕ) (l : List Place) (k : Cuttable g l) (cuts : List ℕ) where
       unfolding parts_from
       last_rest = ap (rest l from) (rest_end cuts i all) ∙ ap (λ (m : List Place). greatest_latency m ∷ []) (sym (take_all (length l - from) (drop from l) (omega (arith, length-drop from l))))
 
-      pub cutting_end : (x : ℕ) → x ≡ latency (length l) → ◌≡◌ {A = Sections} (record { refusal = record { number = 0; place = 0 }; latencies = set latencies i x; count = i + 1; sum = total + x }) (answered g l cuts)
+      pub cutting_end : (x : ℕ) → x ≡ latency (length l) → ◌≡◌ {A = Sections} (record { latencies = set latencies i x; count = i + 1; sum = total + x }) (answered g l cuts)
       unfolding sum
       cutting_end x e =
           let s = stores (latency (length l)) [] last_rest in
@@ -142,4 +141,4 @@ module _ (g : ℕ) (l : List Place) (k : Cuttable g l) (cuts : List ℕ) where
           ∙ ap (made (padded 12 0 (latencies_of l cuts)) (length (sections_of l cuts))) summed
         where
           made : List ℕ → ℕ → ℕ → Sections
-          made y n t = record { refusal = record { number = 0; place = 0 }; latencies = y; count = n; sum = t }
+          made y n t = record { latencies = y; count = n; sum = t }

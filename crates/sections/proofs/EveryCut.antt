@@ -1,16 +1,15 @@
 -- Document 02, order 6, over all cut lists and gaps: "the whole chain's greatest latency is at most the sum, and cutting a section further never lowers the sum".
 -- Both hold more strongly: each cut adds at least 1. Of places first, then of what the call answers.
-use Rattle.std.specs.Prelude.{ℕ, ◌+◌, ◌≤◌, ◌≡◌, Bool, true, false, length}
+use Rattle.std.specs.Prelude.{ℕ, ◌+◌, ◌≤◌, ◌≡◌, Bool, true, false, length, Err, Ok, Result}
 use Rattle.std.proofs.Common.{arith, sym, ap, ◌∙◌, length-append}
 use Rattle.std.proofs.Math.Path.{refl}
 use Rattle.std.proofs.lemmas.Bool.{false≢true}
 use mathlib.Core.List.{List, [], ◌++◌}
 use Rattle.std.proofs.Math.ListN.{get_or-append}
+use Rattle.refusal.specs.declared.Refusal.{Refusal}
 use Rattle.refusal.specs.Refusals.{refusal}
 use Rattle.task.specs.declared.Place.{Place}
 use Rattle.chain.specs.declared.Chain.{Chain}
-use Rattle.chain.specs.declared.Verdict.{Verdict}
-use Rattle.chain.specs.declared.Verdict.TheVariants as verdict
 use Rattle.chain.specs.Chains.{at, zero_place, last_place, given_of, tasks_of}
 use Rattle.chain.specs.Checks.{verdict_of}
 use Rattle.chain.specs.Hyperperiod.{hyper_of}
@@ -52,79 +51,94 @@ module _ (g : ℕ) (l : List Place) (ok : Uniform g l) where
 
 -- ---- of what the call answers
 
--- An answer with no refusal: the chain's own checks accept it, and the cuts are valid.
-pub record Answered (c : Chain) (cuts : List ℕ) : Type 0 where
-  pub accepted : verdict_of c ≡ verdict.Accepted (hyper_of (tasks_of c))
+-- Each refusal has a number above 0, and fits one number with its place.
+pub refused_small : (c : Chain) (cuts : List ℕ) (r : Refusal) → sections_answer c cuts ≡ Err r → SmallVerdict (Err r)
+unfolding sections_after
+refused_small c cuts r e = go (verdict_of c) (valid_cuts (tasks_of c) cuts) refl (verdict_small c) e
+  where
+    go : (v : Result ℕ Refusal) (t : Bool) → valid_cuts (tasks_of c) cuts ≡ t → SmallVerdict v → sections_after c.gap (tasks_of c) cuts (after_cuts (length (tasks_of c)) cuts v) ≡ Err r → SmallVerdict (Err r)
+    go (Err q) t f s z = let i : q ≡ r = cc in rw (← i) s
+    go (Ok h) true f s z = absurd (let y : ◌≡◌ {A = Result Sections Refusal} (Ok (answered c.gap (tasks_of c) cuts)) (Err r) = rw f at z in cc)
+    go (Ok h) false f s z =
+        let i : refusal 17 0 ≡ r = let y : ◌≡◌ {A = Result Sections Refusal} (Err (refusal 17 0)) (Err r) = rw f at z in cc in
+        rw (← i) (omega arith, omega arith, omega arith)
+
+-- What is known of sections s that are answered: the chain's own checks accept it, and the cuts are valid.
+pub record Answered (c : Chain) (cuts : List ℕ) (s : Sections) : Type 0 where
+  pub accepted : verdict_of c ≡ Ok (hyper_of (tasks_of c))
   pub ok : Cuttable c.gap (tasks_of c)
   pub valid : valid_cuts (tasks_of c) cuts ≡ true
-  pub is : sections_answer c cuts ≡ answered c.gap (tasks_of c) cuts
+  pub is : s ≡ answered c.gap (tasks_of c) cuts
 
 module _ (c : Chain) (twelve : length c.tasks ≡ 12) where
-  pub is_answered : (cuts : List ℕ) → (sections_answer c cuts).refusal.number ≡ 0 → Answered c cuts
+  pub is_answered : (cuts : List ℕ) (s : Sections) → sections_answer c cuts ≡ Ok s → Answered c cuts s
   unfolding sections_after
-  is_answered cuts fine = go (verdict_of c) (valid_cuts (tasks_of c) cuts) refl refl (verdict_small c) fine
+  is_answered cuts s fine = go (verdict_of c) (valid_cuts (tasks_of c) cuts) refl refl fine
     where
-      facts : (h : ℕ) → verdict_of c ≡ verdict.Accepted h → Facts c h
+      facts : (h : ℕ) → verdict_of c ≡ Ok h → Facts c h
       facts h e = accepted c h twelve e
 
-      go : (v : Verdict) (t : Bool) → verdict_of c ≡ v → valid_cuts (tasks_of c) cuts ≡ t → SmallVerdict v → (sections_after c.gap (tasks_of c) cuts (after_cuts (length (tasks_of c)) cuts v)).refusal.number ≡ 0 → Answered c cuts
-      go (verdict.Refused r) t e f s z = absurd (omega (arith, s.2))
-      go (verdict.Accepted h) true e f s z = record {
-        accepted = e ∙ ap verdict.Accepted (facts h e).hyper;
-        ok = cuttable_placed c.gap (given_of c) h (facts h e).passes.sound (facts h e).hyper (facts h e).small;
-        valid = f;
-        is = rw (e, f);
-      }
-      go (verdict.Accepted h) false e f s z = absurd (let y : 17 ≡ 0 = rw f at z in omega arith)
+      go : (v : Result ℕ Refusal) (t : Bool) → verdict_of c ≡ v → valid_cuts (tasks_of c) cuts ≡ t → sections_after c.gap (tasks_of c) cuts (after_cuts (length (tasks_of c)) cuts v) ≡ Ok s → Answered c cuts s
+      go (Err r) t e f z = absurd cc
+      go (Ok h) true e f z =
+          let y : answered c.gap (tasks_of c) cuts ≡ s = let x : ◌≡◌ {A = Result Sections Refusal} (Ok (answered c.gap (tasks_of c) cuts)) (Ok s) = rw f at z in cc in
+          record {
+            accepted = e ∙ ap Ok (facts h e).hyper;
+            ok = cuttable_placed c.gap (given_of c) h (facts h e).passes.sound (facts h e).hyper (facts h e).small;
+            valid = f;
+            is = sym y;
+          }
+      go (Ok h) false e f z = absurd (let y : ◌≡◌ {A = Result Sections Refusal} (Err (refusal 17 0)) (Ok s) = rw f at z in cc)
 
   -- Exactly then there is no refusal.
-  pub when_answered : (cuts : List ℕ) (h : ℕ) → verdict_of c ≡ verdict.Accepted h → valid_cuts (tasks_of c) cuts ≡ true → sections_answer c cuts ≡ answered c.gap (tasks_of c) cuts
+  pub when_answered : (cuts : List ℕ) (h : ℕ) → verdict_of c ≡ Ok h → valid_cuts (tasks_of c) cuts ≡ true → sections_answer c cuts ≡ Ok (answered c.gap (tasks_of c) cuts)
   unfolding sections_after
   when_answered cuts h e f = rw (e, f)
 
-  -- Each cut adds at least 1 to the whole chain's greatest latency,
-  pub each_cut_adds : (cuts : List ℕ) → (sections_answer c cuts).refusal.number ≡ 0 → greatest_latency (tasks_of c) + length cuts ≤ (sections_answer c cuts).sum
-  each_cut_adds cuts fine = let k = is_answered cuts fine in omega (arith, ap (λ (s : Sections). s.sum) k.is, whole_below c.gap (tasks_of c) k.ok.uniform cuts k.valid)
+  module _ (cuts : List ℕ) (s : Sections) (a : sections_answer c cuts ≡ Ok s) where
+    -- Each cut adds at least 1 to the whole chain's greatest latency,
+    pub each_cut_adds : greatest_latency (tasks_of c) + length cuts ≤ s.sum
+    each_cut_adds = let k = is_answered cuts s a in omega (arith, ap (λ (x : Sections). x.sum) k.is, whole_below c.gap (tasks_of c) k.ok.uniform cuts k.valid)
 
-  -- so "the whole chain's greatest latency is at most the sum".
-  pub whole_at_most : (cuts : List ℕ) → (sections_answer c cuts).refusal.number ≡ 0 → greatest_latency (tasks_of c) ≤ (sections_answer c cuts).sum
-  whole_at_most cuts fine = omega (arith, each_cut_adds cuts fine)
+    -- so "the whole chain's greatest latency is at most the sum".
+    pub whole_at_most : greatest_latency (tasks_of c) ≤ s.sum
+    whole_at_most = omega (arith, each_cut_adds)
 
   -- No cut at all answers the whole chain's greatest latency.
-  pub whole_answer : (sections_answer c []).refusal.number ≡ 0 → (sections_answer c []).sum ≡ greatest_latency (tasks_of c)
-  whole_answer fine = let k = is_answered [] fine in ap (λ (s : Sections). s.sum) k.is ∙ whole_sum c.gap (tasks_of c) k.ok.uniform
+  pub whole_answer : (s : Sections) → sections_answer c [] ≡ Ok s → s.sum ≡ greatest_latency (tasks_of c)
+  whole_answer s a = let k = is_answered [] s a in ap (λ (x : Sections). x.sum) k.is ∙ whole_sum c.gap (tasks_of c) k.ok.uniform
 
-  module _ (cuts more : List ℕ) (a : (sections_answer c cuts).refusal.number ≡ 0) (b : (sections_answer c more).refusal.number ≡ 0) (k : (x : ℕ) → known cuts x ≡ true → known more x ≡ true) where
+  module _ (cuts more : List ℕ) (s t : Sections) (a : sections_answer c cuts ≡ Ok s) (b : sections_answer c more ≡ Ok t) (k : (x : ℕ) → known cuts x ≡ true → known more x ≡ true) where
     -- Each further section adds at least 1,
-    pub each_section_adds : (sections_answer c cuts).sum + (sections_answer c more).count ≤ (sections_answer c more).sum + (sections_answer c cuts).count
+    pub each_section_adds : s.sum + t.count ≤ t.sum + s.count
     each_section_adds =
-        let p = is_answered cuts a in
-        let q = is_answered more b in
+        let p = is_answered cuts s a in
+        let q = is_answered more t b in
         omega (
           arith,
-          ap (λ (s : Sections). s.sum) p.is,
-          ap (λ (s : Sections). s.sum) q.is,
-          ap (λ (s : Sections). s.count) p.is,
-          ap (λ (s : Sections). s.count) q.is,
+          ap (λ (x : Sections). x.sum) p.is,
+          ap (λ (x : Sections). x.sum) q.is,
+          ap (λ (x : Sections). x.count) p.is,
+          ap (λ (x : Sections). x.count) q.is,
           sections_count cuts 0 (tasks_of c),
           sections_count more 0 (tasks_of c),
           further_adds c.gap (tasks_of c) p.ok.uniform cuts more p.valid q.valid k,
         )
 
     -- there are no fewer sections,
-    no_fewer : (sections_answer c cuts).count ≤ (sections_answer c more).count
+    no_fewer : s.count ≤ t.count
     no_fewer =
-        let p = is_answered cuts a in
-        let q = is_answered more b in
+        let p = is_answered cuts s a in
+        let q = is_answered more t b in
         omega (
           arith,
-          ap (λ (s : Sections). s.count) p.is,
-          ap (λ (s : Sections). s.count) q.is,
+          ap (λ (x : Sections). x.count) p.is,
+          ap (λ (x : Sections). x.count) q.is,
           sections_count cuts 0 (tasks_of c),
           sections_count more 0 (tasks_of c),
           further_longer cuts more (further_known (length (tasks_of c)) more cuts 0 p.valid q.valid k),
         )
 
     -- so "cutting a section further never lowers the sum".
-    pub never_lowers : (sections_answer c cuts).sum ≤ (sections_answer c more).sum
+    pub never_lowers : s.sum ≤ t.sum
     never_lowers = omega (arith, each_section_adds, no_fewer)

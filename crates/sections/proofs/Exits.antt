@@ -1,15 +1,14 @@
--- What holds at each turn and return of `rises`, `judge` and `section_latencies_on`.
-use Prim.Native.Nat.{ℕ, ◌+◌, ◌-◌, ◌≤◌, ◌<◌}
-use native.Mathlib.Omega.{arith}
-use mathlib.Core.Path.{◌≡◌, refl, sym}
+-- What holds at each turn and return of `rises` and `section_latencies_on`.
+use Rattle.std.specs.Prelude.{Err, Ok, Result}
+use Prim.Native.Nat.{ℕ, ◌+◌, ◌≤◌, ◌<◌}
+use mathlib.Core.Path.{◌≡◌, refl}
 use mathlib.Core.Bool.{Bool, true, false, cond}
 use mathlib.Core.List.{List}
 use lib.ListN.{length, drop, get_or}
 use borrow.Author.Tests.{lt-ltb, le-ltb}
+use Rattle.refusal.specs.declared.Refusal.{Refusal}
 use Rattle.refusal.specs.Refusals.{refusal}
 use Rattle.task.specs.declared.Task.{Task}
-use Rattle.chain.specs.declared.Verdict.{Verdict}
-use Rattle.chain.specs.declared.Verdict.TheVariants as verdict
 use Rattle.chain.specs.Chains.{placed}
 use Rattle.chain.specs.Checks.{verdict_in}
 use Rattle.chain.proofs.CheckLaws.{accepted_in}
@@ -38,23 +37,16 @@ turn_end n from i cuts h = rw (rest_end cuts i h)
 
 -- ---- the checks
 
-module _ (n h : ℕ) (cuts : List ℕ) where
-  pub judge_rises : true ≡ rises_to n 0 cuts → verdict.Accepted h ≡ after_cuts n cuts (verdict.Accepted h)
-  judge_rises e = rw (sym e)
-
-  pub judge_not : false ≡ rises_to n 0 cuts → verdict.Refused (refusal 17 0) ≡ after_cuts n cuts (verdict.Accepted h)
-  judge_not e = rw (sym e)
-
 -- what is known where they accept
-well : (n h : ℕ) (cuts : List ℕ) (v : Verdict) → after_cuts n cuts v ≡ verdict.Accepted h → (v ≡ verdict.Accepted h) × (rises_to n 0 cuts ≡ true)
-well n h cuts (verdict.Refused r) e = absurd (let z : ◌≡◌ {A = ℕ} 0 1 = cc in omega arith)
-well n h cuts (verdict.Accepted k) e = go (rises_to n 0 cuts) refl e
+well : (n h : ℕ) (cuts : List ℕ) (v : Result ℕ Refusal) → after_cuts n cuts v ≡ Ok h → (v ≡ Ok h) × (rises_to n 0 cuts ≡ true)
+well n h cuts (Err r) e = absurd cc
+well n h cuts (Ok k) e = go (rises_to n 0 cuts) refl e
   where
-    go : (t : Bool) → rises_to n 0 cuts ≡ t → cond t (verdict.Accepted k) (verdict.Refused (refusal 17 0)) ≡ verdict.Accepted h → (verdict.Accepted k ≡ verdict.Accepted h) × (rises_to n 0 cuts ≡ true)
+    go : (t : Bool) → rises_to n 0 cuts ≡ t → ◌≡◌ {A = Result ℕ Refusal} (cond t (Ok k) (Err (refusal 17 0))) (Ok h) → (◌≡◌ {A = Result ℕ Refusal} (Ok k) (Ok h)) × (rises_to n 0 cuts ≡ true)
     go true f e = (e, f)
-    go false f e = absurd (let z : ◌≡◌ {A = ℕ} 0 1 = cc in omega arith)
+    go false f e = absurd cc
 
-pub accepted_cuts : (g : ℕ) (l : List Task) (cuts : List ℕ) (h : ℕ) → after_cuts (length (placed g l)) cuts (verdict_in g l) ≡ verdict.Accepted h
+pub accepted_cuts : (g : ℕ) (l : List Task) (cuts : List ℕ) (h : ℕ) → after_cuts (length (placed g l)) cuts (verdict_in g l) ≡ Ok h
     → (Cuttable g (placed g l)) × (rises_to (length (placed g l)) 0 cuts ≡ true)
 accepted_cuts g l cuts h e =
     let w = well (length (placed g l)) h cuts (verdict_in g l) e in

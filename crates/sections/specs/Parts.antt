@@ -1,5 +1,5 @@
 -- Two chains one after the other: a part of a chain that passes 8 and 5 passes them, and the whole way is the way of the first, one link, and the way of the second.
-use Prim.Native.Nat.{ℕ, zero, suc, ◌+◌, ◌-◌, ◌≤◌, ◌<◌}
+use Prim.Native.Nat.{ℕ, zero, suc, ◌+◌, ◌≤◌, ◌<◌}
 use native.Mathlib.Omega.{arith}
 use Rattle.std.proofs.Math.Nat.{zero-add}
 use Rattle.std.specs.Prelude.{◌≡◌, List, ◌++◌}

@@ -1,12 +1,11 @@
 -- Document 02, order 6: the sections of a chain that is cut, the sum of their greatest latencies with one gap for each cut, and what the call answers.
-use Rattle.std.specs.Prelude.{ℕ, ◌+◌, ◌-◌, ◌*◌, Bool, true, cond, ◌&&◌, List, [], ◌∷◌, map, ltb, length, take, drop, replicate}
-use Rattle.refusal.specs.Refusals.{refusal, none}
+use Rattle.std.specs.Prelude.{ℕ, ◌+◌, ◌-◌, ◌*◌, Bool, true, cond, ◌&&◌, List, [], ◌∷◌, map, ltb, length, take, drop, Err, Ok, Result}
+use Rattle.refusal.specs.declared.Refusal.{Refusal}
+use Rattle.refusal.specs.Refusals.{refusal}
 use Rattle.ranges.specs.Entries.{sum}
 use Rattle.task.specs.declared.Task.{Task}
 use Rattle.task.specs.declared.Place.{Place}
 use Rattle.chain.specs.declared.Chain.{Chain}
-use Rattle.chain.specs.declared.Verdict.{Verdict}
-use Rattle.chain.specs.declared.Verdict.TheVariants as verdict
 use Rattle.chain.specs.Chains.{placed, tasks_of}
 use Rattle.chain.specs.Checks.{verdict_of, verdict_in}
 use Rattle.schedule.specs.Schedules.{padded}
@@ -38,24 +37,24 @@ latencies_of l cuts = map greatest_latency (sections_of l cuts)
 abbrev pub sum_of : ℕ → List Place → List ℕ → ℕ
 sum_of gap l cuts = sum (latencies_of l cuts) + length cuts * gap
 
--- The answer: the sections' greatest latencies with 0 past them, their number, and the sum.
+-- What is answered: the sections' greatest latencies with 0 past them, their number, and the sum.
 abbrev pub answered : ℕ → List Place → List ℕ → Sections
-answered gap l cuts = record { refusal = none; latencies = padded 12 0 (latencies_of l cuts); count = length (sections_of l cuts); sum = sum_of gap l cuts }
+answered gap l cuts = record { latencies = padded 12 0 (latencies_of l cuts); count = length (sections_of l cuts); sum = sum_of gap l cuts }
 
 -- 17 "after the chain's own checks", 8, 5 and 7. n is the number of places.
-abbrev pub after_cuts : ℕ → List ℕ → Verdict → Verdict
-after_cuts n cuts (verdict.Refused r) = verdict.Refused r
-after_cuts n cuts (verdict.Accepted h) = cond (rises_to n 0 cuts) (verdict.Accepted h) (verdict.Refused (refusal 17 0))
+abbrev pub after_cuts : ℕ → List ℕ → Result ℕ Refusal → Result ℕ Refusal
+after_cuts n cuts (Err r) = Err r
+after_cuts n cuts (Ok h) = cond (rises_to n 0 cuts) (Ok h) (Err (refusal 17 0))
 
--- What the call answers, by what its checks say; a refusal has zeros everywhere else.
-unfoldable pub sections_after : ℕ → List Place → List ℕ → Verdict → Sections
-sections_after gap l cuts (verdict.Accepted h) = answered gap l cuts
-sections_after gap l cuts (verdict.Refused r) = record { refusal = r; latencies = replicate 12 0; count = 0; sum = 0 }
+-- What the call answers, by what its checks say.
+unfoldable pub sections_after : ℕ → List Place → List ℕ → Result ℕ Refusal → Result Sections Refusal
+sections_after gap l cuts (Ok h) = Ok (answered gap l cuts)
+sections_after gap l cuts (Err r) = Err r
 
 -- The call on a chain: the chain's own checks, then 17, then the answer.
-abbrev pub sections_answer : Chain → List ℕ → Sections
+abbrev pub sections_answer : Chain → List ℕ → Result Sections Refusal
 sections_answer c cuts = sections_after c.gap (tasks_of c) cuts (after_cuts (length (tasks_of c)) cuts (verdict_of c))
 
 -- The same of a gap and a list of tasks, one for each place.
-abbrev pub sections_in : ℕ → List Task → List ℕ → Sections
+abbrev pub sections_in : ℕ → List Task → List ℕ → Result Sections Refusal
 sections_in g l cuts = sections_after g (placed g l) cuts (after_cuts (length (placed g l)) cuts (verdict_in g l))

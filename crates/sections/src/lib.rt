@@ -8,36 +8,29 @@ ghost use Rattle.latency.specs.Latency.{greatest_latency};
 ghost use Rattle.sections.specs.Uniform.{Cuttable};
 ghost use Rattle.sections.specs.Sections.{rises_to, answered, after_cuts, sections_answer, sections_in};
 
-use chain::{Chain, Verdict};
+use chain::Chain;
 use refusal::Refusal;
 
-// The sections' greatest latencies in order, with 0 past them, their number, and the sum with one gap for each cut. The refusal is number 0 at place 0 in a success; in a
-// refusal all else is zero.
+// The sections' greatest latencies in order, with 0 past them, their number, and the sum with one gap for each cut.
 #[derive(Clone, Copy)]
 pub struct Sections {
-    pub refusal: Refusal,
     pub latencies: [u64; 12],
     pub count: usize,
     pub sum: u64,
 }
 
 // Whether the cuts rise strictly and lie in 1 to places - 1.
+#[tactic(auto, using(crate::proofs::Exits::turn_low, crate::proofs::Exits::turn_high, crate::proofs::Exits::turn_on, crate::proofs::Exits::turn_end))]
 fn rises(cuts: &[u64], places: usize) -> bool
     ensures { result ≡ rises_to places 0 cuts.now }
 {
     let n = places as u64;
     let mut from: u64 = 0;
-    let mut i: usize = 0;
-    while i < cuts.len() {
-        let c = cuts[i];
-        if c <= from {
+    for &cut in cuts {
+        if cut <= from || n <= cut {
             return false;
         }
-        if n <= c {
-            return false;
-        }
-        from = c;
-        i += 1;
+        from = cut;
     }
     true
 }
@@ -60,66 +53,44 @@ fn measure(tasks: &[u64], gap: u64, cuts: &[u64]) -> Sections
     let mut latencies = [0u64; 12];
     let mut sum: u64 = 0;
     let mut from: usize = 0;
-    let mut i: usize = 0;
-    while i < cuts.len() {
-        let to = cuts[i] as usize;
+    for (i, cut) in cuts.iter().enumerate() {
+        let to = *cut as usize;
         let latency = section_latency(tasks, gap, from, to);
         latencies[i] = latency;
         sum += latency + gap;
         from = to;
-        i += 1;
     }
     let latency = section_latency(tasks, gap, from, tasks.len() / 3);
-    latencies[i] = latency;
+    latencies[cuts.len()] = latency;
     Sections {
-        refusal: Refusal {
-            number: 0,
-            place: 0,
-        },
         latencies,
-        count: i + 1,
+        count: cuts.len() + 1,
         sum: sum + latency,
     }
 }
 
 // The check of the cuts after the chain's own: 17.
-fn judge(v: Verdict, places: usize, cuts: &[u64]) -> Verdict
+fn judge(v: Result<u64, Refusal>, places: usize, cuts: &[u64]) -> Result<u64, Refusal>
     ensures { result ≡ after_cuts places cuts.now v }
 {
-    match v {
-        Verdict::Refused(r) => {
-            return Verdict::Refused(r);
-        }
-        Verdict::Accepted(h) => {
-            if rises(cuts, places) {
-                return Verdict::Accepted(h);
-            }
-            Verdict::Refused(Refusal {
-                number: 17,
-                place: 0,
-            })
-        }
+    let h = v?;
+    if rises(cuts, places) {
+        return Ok(h);
     }
+    Err(Refusal::CUTS_NOT_RISING)
 }
 
 // Sections of a flat list of tasks, one for each place, with the gap of their links.
-pub fn section_latencies_on(tasks: &[u64], gap: u64, cuts: &[u64]) -> Sections
+#[tactic(auto, using(chain::specs::Flat::in_count), unfolding(crate::specs::Sections::sections_after))]
+pub fn section_latencies_on(tasks: &[u64], gap: u64, cuts: &[u64]) -> Result<Sections, Refusal>
     ensures { result ≡ sections_in gap (given_in tasks.now) cuts.now }
 {
-    let v = judge(chain::check_on(tasks, gap), tasks.len() / 3, cuts);
-    match v {
-        Verdict::Refused(r) => Sections {
-            refusal: r,
-            latencies: [0u64; 12],
-            count: 0,
-            sum: 0,
-        },
-        Verdict::Accepted(_) => measure(tasks, gap, cuts),
-    }
+    judge(chain::check_on(tasks, gap), tasks.len() / 3, cuts)?;
+    Ok(measure(tasks, gap, cuts))
 }
 
 // Sections of a chain: each section's greatest latency, and the sum with one gap for each cut; refusals 8, 5, 7, 17.
-pub fn section_latencies(c: Chain, cuts: &[u64]) -> Sections
+pub fn section_latencies(c: Chain, cuts: &[u64]) -> Result<Sections, Refusal>
     ensures { result ≡ sections_answer c cuts.now }
 {
     let tasks = chain::flat(c);

@@ -2,7 +2,7 @@
 -- Over a whole range of the cut's jobs, the look past it included, each place's job gains H / T (`gains`) and never goes back (`never_back`), so it moves at most H / T times (`moves_few`).
 -- The same of the states that the steps of a making leave, by the contract of a step alone (`making_moves`). All for every cut and every duration.
 -- And the start of the partition after the range is a hyperperiod after the warm-up tick (`starts_again`).
-use Rattle.std.specs.Prelude.{ℕ, zero, suc, ◌+◌, ◌-◌, ◌/◌, ◌≤◌, ◌<◌, ◌≡◌, refl, ◌↔◌, cond, List, leb, eqb, length}
+use Rattle.std.specs.Prelude.{ℕ, zero, suc, ◌+◌, ◌-◌, ◌/◌, ◌≤◌, ◌<◌, ◌≡◌, refl, ◌↔◌, cond, List, leb, eqb, length, Some}
 use native.Mathlib.Omega.{arith}
 use Rattle.std.proofs.Math.Decide.{dec_le, ℕ_discrete}
 use Rattle.std.proofs.Math.Nat.{add-mul}
@@ -10,7 +10,6 @@ use Rattle.std.proofs.Common.{sym, ◌∙◌, le-leb, eq-eqb, ne_eqb}
 use Rattle.std.proofs.Math.Path.{ap}
 use Rattle.std.proofs.lemmas.Bool.{lt-leb}
 use Rattle.task.specs.declared.Place.{Place}
-use Rattle.task.specs.declared.Latest.TheVariants.{Of}
 use Rattle.task.specs.Jobs.{read_of}
 use Rattle.task.proofs.LinkLaws.{AtLeast}
 use Rattle.chain.specs.Chains.{at, forward_by, backward_by, job_of}
@@ -60,8 +59,8 @@ module _ (l : List Place) (ok : Sound l) (p : ℕ) (h : p < length l) where
   repeats i q u v x g = hyper_repeats l ok q v x (omega arith)
 
   -- H / T_q jobs later the way back from place q comes to a job H / T_i later
-  later : (i q : ℕ) → i ≤ q → q < length l → (m j : ℕ) → backward_by l i (q - i) m ≡ Of (record { 0 = j })
-      → backward_by l i (q - i) (m + hyper_of l / (at l q).period) ≡ Of (record { 0 = j + hyper_of l / (at l i).period })
+  later : (i q : ℕ) → i ≤ q → q < length l → (m j : ℕ) → backward_by l i (q - i) m ≡ Some (record { 0 = j })
+      → backward_by l i (q - i) (m + hyper_of l / (at l q).period) ≡ Some (record { 0 = j + hyper_of l / (at l i).period })
   later i q u v m j e =
       let z : i + (q - i) ≡ q = omega arith in
       let f = backward_repeats l (hyper_of l) i (q - i) (repeats i q u v) m (record { 0 = j }) e in
@@ -80,14 +79,14 @@ module _ (l : List Place) (ok : Sound l) (p : ℕ) (h : p < length l) where
         let k = on_late l ok p h m g i u v in
         ap (forward_by l p (i - p)) s ∙ go P Q (on_job l p m i) (on_job l p m i - 1) refl (omega arith) (galois l p (i - p) (between l ok p i u v)) (there (on_job l p m i) (omega arith)) (there (on_job l p m i - 1) (omega arith)) (λ n j e. later p i u v n j e)
       where
-        there : (k : ℕ) → warm_at l i ≤ k → backward_by l p (i - p) k ≡ Of (record { 0 = job_of (backward_by l p (i - p) k) })
+        there : (k : ℕ) → warm_at l i ≤ k → backward_by l p (i - p) k ≡ Some (record { 0 = job_of (backward_by l p (i - p) k) })
         there k w =
             found_is (backward_by l p (i - p) k)
             (found (backward_by l p (i - p) k) (warm_at l p) (backward_mono l p (i - p) (between l ok p i u v) (warm_at l i) k (warm_at l p) w (rw (warm_between l ok p i u v) (omega arith))))
 
         go : (P Q f e : ℕ) → forward_by l p (i - p) (m + 1) ≡ f → f ≡ e + 1 → ((j n : ℕ) → (forward_by l p (i - p) j ≤ n) ↔ AtLeast (backward_by l p (i - p) n) j)
-            → backward_by l p (i - p) f ≡ Of (record { 0 = job_of (backward_by l p (i - p) f) }) → backward_by l p (i - p) e ≡ Of (record { 0 = job_of (backward_by l p (i - p) e) })
-            → ((n j : ℕ) → backward_by l p (i - p) n ≡ Of (record { 0 = j }) → backward_by l p (i - p) (n + Q) ≡ Of (record { 0 = j + P }))
+            → backward_by l p (i - p) f ≡ Some (record { 0 = job_of (backward_by l p (i - p) f) }) → backward_by l p (i - p) e ≡ Some (record { 0 = job_of (backward_by l p (i - p) e) })
+            → ((n j : ℕ) → backward_by l p (i - p) n ≡ Some (record { 0 = j }) → backward_by l p (i - p) (n + Q) ≡ Some (record { 0 = j + P }))
             → forward_by l p (i - p) (m + 1 + P) ≡ f + Q
         go P Q f e is next gal a b per =
             let x = (gal (m + 1) f).0 (omega arith) in

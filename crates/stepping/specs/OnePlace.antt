@@ -1,5 +1,5 @@
 -- One place's job moves on: from where it was to the job that the definition gives.
-use Rattle.std.specs.Prelude.{ℕ, ◌+◌, ◌-◌, ◌*◌, ◌/◌, ◌%◌, ◌≤◌, ◌<◌, ◌≡◌, List, ◌≢◌, length, get_or, set}
+use Rattle.std.specs.Prelude.{ℕ, ◌+◌, ◌*◌, ◌/◌, ◌%◌, ◌≤◌, ◌<◌, ◌≡◌, List, ◌≢◌, length, get_or, set}
 use Rattle.std.proofs.Common.{arith, add-mul, div-add-mod', mod-lt, mod-eq_of_lt, ap, ◌∙◌, length-set, get_or-set_same, get_or-set_other}
 use Rattle.std.proofs.Math.Nat.{mul-add-div_right, mul-add-mod_self_right, div-eq_of_lt}
 use Rattle.stepping.specs.Reciprocal.{Reciprocal}

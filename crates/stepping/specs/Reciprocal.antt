@@ -1,7 +1,5 @@
 -- Whole periods without a division: a factor and a shift that were made once for a period (Granlund and Montgomery, "Division by Invariant Integers using Multiplication", 1994).
-use Rattle.std.specs.Prelude.{ℕ, suc, ◌+◌, ◌*◌, ◌/◌, ◌^◌, ◌≤◌, ◌<◌, ◌≡◌}
-use Rattle.std.proofs.Common.{arith, mul_assoc, mul-add, mul_right_comm, suc-mul, mul-le-mul_left, mul-le-mul_right, lt_of_mul-lt-mul_right, div-mul-le_self, div-lt_iff_lt-mul, lt-suc_self, add-one, sym, ◌∙◌, subst}
-use Rattle.std.proofs.Math.Nat.{div-eq_of_lt-le}
+use Rattle.std.specs.Prelude.{ℕ, ◌+◌, ◌*◌, ◌^◌, ◌≤◌, ◌<◌}
 
 -- The factor over 2 ^ shift is 1 / t and at most 1 / 2 ^ shift more. With 2 ^ 24 at most 2 ^ shift / t that is near enough for numbers below 2 ^ 24, which is 16,777,216: twelve periods
 -- have at most 12,000,000 ticks. A factor up to 20,000,000,000 keeps the product of the two far within 64 bits.

@@ -14,6 +14,7 @@ use task::{Job, Place, Tick};
 
 // Place i moves on where its neighbour on the way from the cut went on by `ticks`; answers the ticks that it went on by itself.
 // The product and the shift give the whole periods: a multiplication and a shift stand for the division.
+#[tactic(auto, using(crate::proofs::Advancing::moved_small))]
 fn advance(reciprocals: &[u64], state: &mut [u64], i: usize, ticks: u64) -> u64
     requires { Roomy reciprocals.now state.old i ticks }
     ensures { Advanced reciprocals.now i ticks state.old state.new result }
@@ -29,14 +30,13 @@ fn advance(reciprocals: &[u64], state: &mut [u64], i: usize, ticks: u64) -> u64
 }
 
 // The places before the cut move on, from the cut to the first.
+#[tactic(auto, using(crate::proofs::Turns::back_start))]
 fn step_back(reciprocals: &[u64], p: usize, state: &mut [u64])
     requires { Ready reciprocals.now p state.old 0 p }
     ensures { Went reciprocals.now p (λ i. i + 1) 0 p state.old state.new }
 {
     let mut ticks = reciprocals[3 * p];
-    let mut i = p;
-    while 0 < i {
-        i -= 1;
+    for i in (0..p).rev() {
         ticks = advance(reciprocals, state, i, ticks);
     }
 }
@@ -47,15 +47,13 @@ fn step_on(reciprocals: &[u64], n: usize, p: usize, state: &mut [u64])
     ensures { Went reciprocals.now p (λ i. i - 1) (p + 1) n state.old state.new }
 {
     let mut ticks = reciprocals[3 * p];
-    let last = n - 1;
-    let mut i = p;
-    while i < last {
-        i += 1;
+    for i in p + 1..n {
         ticks = advance(reciprocals, state, i, ticks);
     }
 }
 
 // The job at the end, given the cut's job and the last place's.
+#[tactic(auto, unfolding(crate::specs::Standing::end_job))]
 fn end_job(n: usize, p: usize, here: u64, last: u64) -> u64
     requires { (p < 12) × (here ≤ 1000000000000) }
     ensures { result ≡ end_job n p here last }
@@ -67,6 +65,7 @@ fn end_job(n: usize, p: usize, here: u64, last: u64) -> u64
 }
 
 // The partition of the job at which the state stands.
+#[tactic(auto, using(crate::proofs::Ends::start_is, crate::proofs::Ends::start_small, crate::proofs::Ends::job_small, crate::proofs::Ends::end_is, crate::proofs::Ends::end_small))]
 pub fn here(tasks: &[u64], gap: u64, n: usize, p: usize, state: &[u64]) -> Partition
     requires { Stands (tasks_in gap tasks.now) n p state.now }
     ensures { IsPartition (tasks_in gap tasks.now) p (job_at state.now p) result }

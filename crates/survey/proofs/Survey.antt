@@ -6,15 +6,11 @@ use Rattle.task.specs.Jobs.{within_limits}
 use Rattle.task.specs.Links.{earliest_from, latest_over, forward_link, backward_link}
 use Rattle.euclid.specs.Divisor.{euclid, gcd_of, lcm_of}
 use Rattle.chain.specs.declared.Chain.{Chain}
-use Rattle.chain.specs.declared.Verdict.{Verdict}
-use Rattle.chain.specs.declared.Verdict.TheVariants as verdict
 use Rattle.chain.specs.Chains.{tasks_of, zero_task, forward_by, on_latest, backward_by}
 use Rattle.chain.specs.Flat.{flat_of}
 use Rattle.chain.specs.Hyperperiod.{hyper_from}
 use Rattle.chain.specs.Checks.{first_fault, hyper_verdict, after_gap, verdict_for, verdict_of}
 use Rattle.timing.specs.declared.WarmUp.{WarmUp}
-use Rattle.timing.specs.declared.Span.{Span}
-use Rattle.timing.specs.declared.Span.TheVariants as span
 use Rattle.ranges.specs.Least.{least_from}
 use Rattle.timing.specs.WarmUp.{warm_last, warm_at, warm_tick}
 use Rattle.timing.specs.Delay.{delay_at, first_aged, age_at}
@@ -23,43 +19,26 @@ use Rattle.timing.specs.Answers.{warm_up_after, warm_up_of, span_after, delay_of
 use Rattle.table.specs.Anchors.{anchors}
 use Rattle.table.specs.WellFormed.{spaced, well_formed}
 use Rattle.table.specs.Reading as read
-use Rattle.table.specs.declared.Reading.{Reading}
-use Rattle.table.specs.declared.Reading.TheVariants as reading
 use Rattle.table.specs.Figures.{greatest, low_to, low}
-use Rattle.figures.specs.declared.Greatest.{Greatest}
-use Rattle.figures.specs.declared.Greatest.TheVariants as most
-use Rattle.figures.specs.declared.Low.{Low}
-use Rattle.figures.specs.declared.Low.TheVariants as least
-use Rattle.figures.specs.declared.Mean.{Mean}
-use Rattle.figures.specs.declared.Mean.TheVariants as mean
-use Rattle.figures.specs.declared.Exceedance.{Exceedance}
-use Rattle.figures.specs.declared.Exceedance.TheVariants as run
 use Rattle.figures.specs.Ticks.{total, every_above, longest_run, ticks}
 use Rattle.figures.specs.Figures.{delay_sum, doubled_area, exceedance, greatest_of, low_of, mean_of, exceedance_of}
-use Rattle.histogram.specs.declared.Histogram.{Histogram}
-use Rattle.histogram.specs.declared.Histogram.TheVariants as histogram
 use Rattle.histogram.specs.Histogram.{histogram_of, counts_of}
 use Rattle.partition.specs.Lists.{range_from, keep, fresh, drop_repeats}
 use Rattle.partition.specs.Partitions.{start_of, end_of, keeps, anchors_from}
 use Rattle.maker.specs.Making.{judged, made_after, made_of, written_after, written_of, starts_of, latencies_of, told}
 use Rattle.ranges.specs.Largest.{largest}
-use Rattle.windows.specs.declared.Windows.{Windows}
-use Rattle.windows.specs.declared.Windows.TheVariants as window
 use Rattle.windows.specs.Windows.{span_of, misses, misses_in, window_of, most_misses, earliest_job, windows_after, windows_of}
 use Rattle.windows.specs.Windows as windows-of
 use Rattle.schedule.specs.Schedules.{padded}
 use Rattle.latency.specs.Latency.{greatest_latency}
 use Rattle.sections.specs.declared.Sections.{Sections}
 use Rattle.sections.specs.Sections as sections
-use Rattle.load.specs.declared.Load.{Load}
 use Rattle.load.specs.Load as load
 use Rattle.schedule.specs.declared.NumberedTask.{NumberedTask}
 use Rattle.schedule.specs.declared.Schedule.{Schedule}
 use Rattle.schedule.specs.Schedules.{task_rule, known, task_numbered, route_numbered, schedule_of}
 use Rattle.schedule_checks.specs.Checks as schedule-checks
 use Rattle.refusal.specs.declared.Refusal.{Refusal}
-use Rattle.phase.specs.declared.Phase.{Phase}
-use Rattle.phase.specs.declared.Phase.TheVariants as phases
 use Rattle.phase.specs.Phases.{phase_after, phase_from}
 use Rattle.bounded.specs.declared.Bounded.{Bounded}
 use Rattle.bounded.specs.Bounded.{cleared, pairwise, same_task, same_route, same_schedule, same_bounded}

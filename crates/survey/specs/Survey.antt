@@ -1,22 +1,22 @@
 -- Document 01, "Survey examples": A1 to A8, B, C, D and E, and the examples of orders 2, 5 and 6 of document 02, with what follows from order 7 for A and B, from order 8 for some seeds and from order 9 for some bounds, as one computed list with one conclusion. Every row
 -- is computed from the definitions that the calls' contracts cite; a call's answer is turned into plain numbers: of a refusal its number and its place, of a
 -- success 0 and its values.
-use Rattle.std.specs.Prelude.{ℕ, zero, suc, ◌+◌, ◌-◌, ◌≡◌, refl, List, [], ◌∷◌, ◌++◌, map, length, take, replicate}
+use Rattle.std.specs.Prelude.{ℕ, zero, suc, ◌+◌, ◌-◌, ◌≡◌, refl, List, [], ◌∷◌, ◌++◌, map, length, take, replicate, Err, None, Ok, Option, Result, Some}
+use Rattle.figures.specs.declared.Exceedance.TheVariants.{Endless, Run}
+use Rattle.windows.specs.declared.Windows.{Windows}
+use Rattle.figures.specs.declared.Mean.{Mean}
+use Rattle.figures.specs.declared.Exceedance.{Exceedance}
 use Rattle.task.specs.declared.Task.{Task}
 use Rattle.task.specs.declared.Job.{Job}
 use Rattle.task.specs.Jobs.{within_limits}
 use Rattle.task.specs.Links.{earliest_from, latest_over, forward_link, backward_link}
 use Rattle.euclid.specs.Divisor.{euclid, gcd_of, lcm_of}
 use Rattle.chain.specs.declared.Chain.{Chain}
-use Rattle.chain.specs.declared.Verdict.{Verdict}
-use Rattle.chain.specs.declared.Verdict.TheVariants as verdict
 use Rattle.chain.specs.Chains.{tasks_of, zero_task, forward_by, on_latest, backward_by}
 use Rattle.chain.specs.Flat.{flat_of}
 use Rattle.chain.specs.Hyperperiod.{hyper_from}
 use Rattle.chain.specs.Checks.{first_fault, hyper_verdict, after_gap, verdict_for, verdict_of}
 use Rattle.timing.specs.declared.WarmUp.{WarmUp}
-use Rattle.timing.specs.declared.Span.{Span}
-use Rattle.timing.specs.declared.Span.TheVariants as span
 use Rattle.ranges.specs.Least.{least_from}
 use Rattle.timing.specs.WarmUp.{warm_last, warm_at, warm_tick}
 use Rattle.timing.specs.Delay.{delay_at, first_aged, age_at}
@@ -25,43 +25,26 @@ use Rattle.timing.specs.Answers.{warm_up_after, warm_up_of, span_after, delay_of
 use Rattle.table.specs.Anchors.{anchors}
 use Rattle.table.specs.WellFormed.{spaced, well_formed}
 use Rattle.table.specs.Reading as read
-use Rattle.table.specs.declared.Reading.{Reading}
-use Rattle.table.specs.declared.Reading.TheVariants as reading
 use Rattle.table.specs.Figures.{greatest, low_to, low}
-use Rattle.figures.specs.declared.Greatest.{Greatest}
-use Rattle.figures.specs.declared.Greatest.TheVariants as most
-use Rattle.figures.specs.declared.Low.{Low}
-use Rattle.figures.specs.declared.Low.TheVariants as least
-use Rattle.figures.specs.declared.Mean.{Mean}
-use Rattle.figures.specs.declared.Mean.TheVariants as mean
-use Rattle.figures.specs.declared.Exceedance.{Exceedance}
-use Rattle.figures.specs.declared.Exceedance.TheVariants as run
 use Rattle.figures.specs.Ticks.{total, every_above, longest_run, ticks}
 use Rattle.figures.specs.Figures.{delay_sum, doubled_area, exceedance, greatest_of, low_of, mean_of, exceedance_of}
-use Rattle.histogram.specs.declared.Histogram.{Histogram}
-use Rattle.histogram.specs.declared.Histogram.TheVariants as histogram
 use Rattle.histogram.specs.Histogram.{histogram_of, counts_of}
 use Rattle.partition.specs.Lists.{range_from, keep, fresh, drop_repeats}
 use Rattle.partition.specs.Partitions.{start_of, end_of, keeps, anchors_from}
 use Rattle.maker.specs.Making.{judged, made_after, made_of, written_after, written_of, starts_of, latencies_of, told}
 use Rattle.ranges.specs.Largest.{largest}
-use Rattle.windows.specs.declared.Windows.{Windows}
-use Rattle.windows.specs.declared.Windows.TheVariants as window
 use Rattle.windows.specs.Windows.{span_of, misses, misses_in, window_of, most_misses, earliest_job, windows_after, windows_of}
 use Rattle.windows.specs.Windows as windows-of
 use Rattle.schedule.specs.Schedules.{padded}
 use Rattle.latency.specs.Latency.{greatest_latency}
 use Rattle.sections.specs.declared.Sections.{Sections}
 use Rattle.sections.specs.Sections as sections
-use Rattle.load.specs.declared.Load.{Load}
 use Rattle.load.specs.Load as load
 use Rattle.schedule.specs.declared.NumberedTask.{NumberedTask}
 use Rattle.schedule.specs.declared.Schedule.{Schedule}
 use Rattle.schedule.specs.Schedules.{task_rule, known, task_numbered, route_numbered, schedule_of}
 use Rattle.schedule_checks.specs.Checks as schedule-checks
 use Rattle.refusal.specs.declared.Refusal.{Refusal}
-use Rattle.phase.specs.declared.Phase.{Phase}
-use Rattle.phase.specs.declared.Phase.TheVariants as phases
 use Rattle.phase.specs.Phases.{phase_after, phase_from}
 use Rattle.bounded.specs.declared.Bounded.{Bounded}
 use Rattle.bounded.specs.Bounded.{cleared, pairwise, same_task, same_route, same_schedule, same_bounded}
@@ -108,12 +91,18 @@ E t = chain_of (task 78125 1 0 ∷ task t 1 0 ∷ [])
 abbrev job : Job → ℕ
 job j = j.0
 
-abbrev warm : Chain → List ℕ
-warm c = let w : WarmUp = warm_up_of c in w.refusal.number ∷ w.hyperperiod ∷ w.tick.0 ∷ map job (take c.places w.jobs)
+-- An answer that is one number; a refusal is its number and its place, here and below.
+abbrev number_is : Result ℕ Refusal → List ℕ
+number_is (Ok n) = 0 ∷ n ∷ []
+number_is (Err r) = r.number ∷ r.place ∷ []
 
-abbrev ticks_of : Span → List ℕ
-ticks_of (span.Ticks n) = 0 ∷ n ∷ []
-ticks_of (span.Refused r) = r.number ∷ r.place ∷ []
+-- H, x0, and W1 to Wn of n places.
+abbrev warm_is : ℕ → Result WarmUp Refusal → List ℕ
+warm_is n (Ok w) = 0 ∷ w.hyperperiod ∷ w.tick.0 ∷ map job (take n w.jobs)
+warm_is n (Err r) = r.number ∷ r.place ∷ []
+
+abbrev warm : Chain → List ℕ
+warm c = warm_is c.places (warm_up_of c)
 
 -- Starts, then latencies, of the table cut at p, in lists of three entries.
 abbrev starts : Chain → ℕ → List ℕ
@@ -125,36 +114,20 @@ latencies c p = latencies_of (written_of c p 3 3)
 abbrev walked : Chain → ℕ → ℕ
 walked c p = (told (made_of c p 3 3)).walked
 
-abbrev read_of : Reading → List ℕ
-read_of (reading.Delay n) = 0 ∷ n ∷ []
-read_of (reading.Refused r) = r.number ∷ r.place ∷ []
-
-abbrev greatest_is : Greatest → List ℕ
-greatest_is (most.Latency n) = 0 ∷ n ∷ []
-greatest_is (most.Refused r) = r.number ∷ r.place ∷ []
-
-abbrev low_is : Low → List ℕ
-low_is (least.Limit n) = 0 ∷ n ∷ []
-low_is (least.Refused r) = r.number ∷ r.place ∷ []
-
-abbrev mean_is : Mean → List ℕ
-mean_is (mean.Doubled area ticks) = 0 ∷ area ∷ ticks ∷ []
-mean_is (mean.Refused r) = r.number ∷ r.place ∷ []
+abbrev mean_is : Result Mean Refusal → List ℕ
+mean_is (Ok m) = 0 ∷ m.doubled_area ∷ m.doubled_ticks ∷ []
+mean_is (Err r) = r.number ∷ r.place ∷ []
 
 -- A run is 0 and its length, and `endless` is 1.
-abbrev run_is : Exceedance → List ℕ
-run_is (run.Run n) = 0 ∷ n ∷ []
-run_is run.Endless = 1 ∷ []
-run_is (run.Refused r) = r.number ∷ r.place ∷ []
-
-abbrev verdict_is : Verdict → List ℕ
-verdict_is (verdict.Accepted h) = 0 ∷ h ∷ []
-verdict_is (verdict.Refused r) = r.number ∷ r.place ∷ []
+abbrev run_is : Result Exceedance Refusal → List ℕ
+run_is (Ok (Run n)) = 0 ∷ n ∷ []
+run_is (Ok Endless) = 1 ∷ []
+run_is (Err r) = r.number ∷ r.place ∷ []
 
 -- The number of misses and the first job.
-abbrev windows_is : Windows → List ℕ
-windows_is (window.Most m j) = 0 ∷ m ∷ j.0 ∷ []
-windows_is (window.Refused r) = r.number ∷ r.place ∷ []
+abbrev windows_is : Result Windows Refusal → List ℕ
+windows_is (Ok w) = 0 ∷ w.most ∷ w.first.0 ∷ []
+windows_is (Err r) = r.number ∷ r.place ∷ []
 
 -- The first and the last starting job of the range.
 abbrev range : Chain → List ℕ
@@ -164,22 +137,17 @@ range c = (warm_at (tasks_of c) 0 + 1) ∷ (warm_at (tasks_of c) 0 + windows-of.
 abbrev counts : Chain → ℕ → ℕ → List ℕ
 counts c b k = window_of (tasks_of c) b k 1 ∷ window_of (tasks_of c) b k 2 ∷ window_of (tasks_of c) b k 3 ∷ []
 
--- The rest of a histogram.
-abbrev rest_is : Histogram → List ℕ
-rest_is (histogram.Rest n) = 0 ∷ n ∷ []
-rest_is (histogram.Refused r) = r.number ∷ r.place ∷ []
-
--- That, and what then stands in a list of n entries that held 7.
+-- The rest of a histogram, and what then stands in a list of n entries that held 7.
 abbrev histogram_is : Chain → ℕ → ℕ → ℕ → ℕ → List ℕ
-histogram_is c g h width n = rest_is (histogram_of (starts c 1) (latencies c 1) g h width n) ++ counts_of (starts c 1) (latencies c 1) g h width (replicate n 7)
+histogram_is c g h width n = number_is (histogram_of (starts c 1) (latencies c 1) g h width n) ++ counts_of (starts c 1) (latencies c 1) g h width (replicate n 7)
 
 -- The number of sections, the sum, and the sections' latencies.
-abbrev sections_is : ℕ → Sections → List ℕ
-sections_is zero s = 0 ∷ s.count ∷ s.sum ∷ take s.count s.latencies
-sections_is (suc n) s = suc n ∷ s.refusal.place ∷ []
+abbrev sections_is : Result Sections Refusal → List ℕ
+sections_is (Ok s) = 0 ∷ s.count ∷ s.sum ∷ take s.count s.latencies
+sections_is (Err r) = r.number ∷ r.place ∷ []
 
 abbrev cut : Chain → List ℕ → List ℕ
-cut c cuts = sections_is (sections.sections_answer c cuts).refusal.number (sections.sections_answer c cuts)
+cut c cuts = sections_is (sections.sections_answer c cuts)
 
 -- The numbers that the first three draws from a seed give.
 abbrev draws : ℕ → List ℕ
@@ -190,15 +158,24 @@ abbrev fields : Task → List ℕ
 fields t = t.period ∷ t.phase ∷ []
 
 -- The chain of a seed: number of places, and the period and the phase at each; that the duration is the period is `durations`.
-abbrev load_is : ℕ → Load → List ℕ
-load_is zero m = 0 ∷ m.chain.places ∷ flat_of fields (take m.chain.places m.chain.tasks)
-load_is (suc n) m = suc n ∷ m.refusal.place ∷ m.chain.places ∷ []
+abbrev load_is : Result Chain Refusal → List ℕ
+load_is (Ok c) = 0 ∷ c.places ∷ flat_of fields (take c.places c.tasks)
+load_is (Err r) = r.number ∷ r.place ∷ 0 ∷ []
 
 abbrev seeded : ℕ → ℕ → List ℕ
-seeded s n = load_is (load.load_of s n).refusal.number (load.load_of s n)
+seeded s n = load_is (load.load_of s n)
+
+abbrev durations_in : ℕ → Result Chain Refusal → List ℕ
+durations_in n (Ok c) = map (λ (t : Task). t.duration) (take n c.tasks)
+durations_in n (Err r) = []
 
 abbrev durations : ℕ → ℕ → List ℕ
-durations s n = map (λ (t : Task). t.duration) (take n (load.load_of s n).chain.tasks)
+durations s n = durations_in n (load.load_of s n)
+
+-- The checks of the chain of a seed.
+abbrev checks_in : Result Chain Refusal → Result ℕ Refusal
+checks_in (Ok c) = verdict_of c
+checks_in (Err r) = Err r
 
 -- A schedule's task.
 abbrev numbered : ℕ → ℕ → ℕ → ℕ → NumberedTask
@@ -216,10 +193,10 @@ abbrev long : Schedule
 long = schedule_of (numbered 1 10001 4 0 ∷ numbered 2 6 6 0 ∷ []) ((1 ∷ 2 ∷ []) ∷ []) 0
 
 -- A phase is 0 and itself, and `none` is 1.
-abbrev phase_is : Phase → List ℕ
-phase_is (phases.Of f) = 0 ∷ f ∷ []
-phase_is phases.Nothing = 1 ∷ []
-phase_is (phases.Refused r) = r.number ∷ r.place ∷ []
+abbrev phase_is : Result (Option ℕ) Refusal → List ℕ
+phase_is (Ok (Some f)) = 0 ∷ f ∷ []
+phase_is (Ok None) = 1 ∷ []
+phase_is (Err r) = r.number ∷ r.place ∷ []
 
 -- Chain A's tasks with chains (1, 2) and (2), a gap and bounds, of which the last two are past the chains.
 abbrev bounded : ℕ → ℕ → ℕ → ℕ → Bounded
@@ -259,13 +236,13 @@ computed =
     -- A3
     ∷ (walked A 1 ∷ walked A 2 ∷ [])
     -- A4, walked and read from the made table
-    ∷ ticks_of (delay_of A 0) ∷ ticks_of (delay_of A 7) ∷ ticks_of (delay_of A 8) ∷ ticks_of (delay_of A 11) ∷ ticks_of (delay_of A 12)
-    ∷ read_of (read.reading (starts A 2) (latencies A 2) 2 12 0) ∷ read_of (read.reading (starts A 2) (latencies A 2) 2 12 7) ∷ read_of (read.reading (starts A 2) (latencies A 2) 2 12 8)
-    ∷ read_of (read.reading (starts A 2) (latencies A 2) 2 12 11) ∷ read_of (read.reading (starts A 2) (latencies A 2) 2 12 12)
+    ∷ number_is (delay_of A 0) ∷ number_is (delay_of A 7) ∷ number_is (delay_of A 8) ∷ number_is (delay_of A 11) ∷ number_is (delay_of A 12)
+    ∷ number_is (read.reading (starts A 2) (latencies A 2) 2 12 0) ∷ number_is (read.reading (starts A 2) (latencies A 2) 2 12 7) ∷ number_is (read.reading (starts A 2) (latencies A 2) 2 12 8)
+    ∷ number_is (read.reading (starts A 2) (latencies A 2) 2 12 11) ∷ number_is (read.reading (starts A 2) (latencies A 2) 2 12 12)
     -- A5
-    ∷ ticks_of (age_of A 12) ∷ ticks_of (age_of A 17) ∷ ticks_of (age_of A 18) ∷ ticks_of (age_of A 23)
+    ∷ number_is (age_of A 12) ∷ number_is (age_of A 17) ∷ number_is (age_of A 18) ∷ number_is (age_of A 23)
     -- A6, the mean by area since order 3 of document 02
-    ∷ low_is (low_of (starts A 2) (latencies A 2) 2 12) ∷ mean_is (mean_of (starts A 2) (latencies A 2) 2 12) ∷ greatest_is (greatest_of (starts A 2) (latencies A 2) 2 12)
+    ∷ number_is (low_of (starts A 2) (latencies A 2) 2 12) ∷ mean_is (mean_of (starts A 2) (latencies A 2) 2 12) ∷ number_is (greatest_of (starts A 2) (latencies A 2) 2 12)
     -- A7
     ∷ run_is (exceedance_of (starts A 2) (latencies A 2) 2 12 18) ∷ run_is (exceedance_of (starts A 2) (latencies A 2) 2 12 14)
     ∷ run_is (exceedance_of (starts A 2) (latencies A 2) 2 12 11) ∷ run_is (exceedance_of (starts A 2) (latencies A 2) 2 12 10)
@@ -275,12 +252,12 @@ computed =
     -- order 2 of document 02: of three windows with as many misses the earliest
     ∷ windows_is (windows_of A 11 3) ∷ counts A 11 3
     -- B
-    ∷ starts B 1 ∷ latencies B 1 ∷ ticks_of (delay_of B 4)
+    ∷ starts B 1 ∷ latencies B 1 ∷ number_is (delay_of B 4)
     -- C, cut at 1 and at 2
     ∷ starts C 1 ∷ latencies C 1 ∷ starts C 2 ∷ latencies C 2
     -- order 5 of document 02: C with gap 1, cut at 1 and at 2; with the greatest gap; and a gap above it
     ∷ starts (gapped 1 C) 1 ∷ latencies (gapped 1 C) 1 ∷ starts (gapped 1 C) 2 ∷ latencies (gapped 1 C) 2
-    ∷ warm (gapped 1 C) ∷ warm (gapped 1000 C) ∷ verdict_is (verdict_of (gapped 1001 C))
+    ∷ warm (gapped 1 C) ∷ warm (gapped 1000 C) ∷ number_is (verdict_of (gapped 1001 C))
     -- order 6 of document 02: chain A in one piece and cut in the middle; with gap 7; and cuts that are 0, the last place, or not rising
     ∷ cut A [] ∷ cut A (1 ∷ []) ∷ cut (gapped 7 A) [] ∷ cut (gapped 7 A) (1 ∷ [])
     ∷ cut A (0 ∷ []) ∷ cut A (2 ∷ []) ∷ cut A (1 ∷ 1 ∷ [])
@@ -291,7 +268,7 @@ computed =
     -- order 8 of document 02: draws from seed 0, the periods at the limits of each row, chains of some seeds, of which one has 0 for its first draw and the greatest wraps at once, a chain's hyperperiod, and places outside 1 to 12
     ∷ draws 0 ∷ map load.period_of (0 ∷ 1 ∷ 10 ∷ 11 ∷ 43 ∷ 44 ∷ 58 ∷ 59 ∷ 81 ∷ 82 ∷ 96 ∷ [])
     ∷ seeded 0 3 ∷ durations 0 3 ∷ seeded 0xDEADBEEF 4 ∷ seeded 0x61C8864680B583EB 1 ∷ seeded 18446744073709551615 4
-    ∷ verdict_is (verdict_of (load.load_of 18446744073709551615 12).chain) ∷ seeded 0 0 ∷ seeded 0 13
+    ∷ number_is (checks_in (load.load_of 18446744073709551615 12)) ∷ seeded 0 0 ∷ seeded 0 13
     -- order 9 of document 02: chain A's second task with the least bound that a phase keeps, and one less; the same with a gap of 5; a task at two places; a task and a chain that are not there; and a period above 10,000
     ∷ phase_is (phase_from (schedule_a 0 0) 1 2 18) ∷ phase_is (phase_from (schedule_a 0 0) 1 2 17) ∷ phase_is (phase_from (schedule_a 9 5) 1 2 23) ∷ phase_is (phase_from (schedule_a 9 5) 1 2 22)
     ∷ phase_is (phase_from twice 1 3 43) ∷ phase_is (phase_from twice 1 3 42) ∷ phase_is (phase_from twice 1 3 33) ∷ phase_is (phase_from twice 1 3 32)
@@ -301,10 +278,10 @@ computed =
     ∷ refusal_is first.refusal ∷ first.latencies ∷ bounds_in first.state ∷ refusal_is second.refusal ∷ second.latencies ∷ bounds_in second.state
     ∷ refusal_is other.refusal ∷ bounds_in other.state ∷ refusal_is committed.refusal ∷ bounds_in committed.state ∷ refusal_is (commit_of committed.state (bounded 1 20 12 9)).refusal
     -- D
-    ∷ warm D ∷ ticks_of (delay_of D 90) ∷ ticks_of (delay_of D 89)
+    ∷ warm D ∷ number_is (delay_of D 90) ∷ number_is (delay_of D 89)
     -- E: no place, 13 places, H at its limit and above
-    ∷ verdict_is (verdict_of (chain_with [] 0)) ∷ verdict_is (verdict_of (chain_with [] 13))
-    ∷ verdict_is (verdict_of (E 768)) ∷ verdict_is (verdict_of (E 769))
+    ∷ number_is (verdict_of (chain_with [] 0)) ∷ number_is (verdict_of (chain_with [] 13))
+    ∷ number_is (verdict_of (E 768)) ∷ number_is (verdict_of (E 769))
     ∷ []
 
 -- What the documents say, in the same order; the warm-ups of chain C with a gap follow from order 5, chain A with gap 7 from orders 5 and 6, the histograms of A and B from order 7, the chains of seeds from order 8, the phases from order 9 and the state's bounds from order 10, which do not name them.

@@ -1,13 +1,16 @@
 -- Well-formed both ways: the computed test says what document 01 says, and either makes the table one that the laws speak of.
-use Rattle.std.specs.Prelude.{◌≡◌, refl, ◌↔◌, Bool, true, false, List, [], ◌∷◌, leb, ltb, eqb, length, drop}
-use Rattle.std.proofs.Common.{sym, ◌∙◌, arith}
+use Rattle.std.specs.Prelude.{◌≡◌, refl, ◌↔◌, Bool, true, false, List, [], ◌∷◌, leb, ltb, eqb, length, drop, cond, Ok, Err, Result}
+use Rattle.std.proofs.Common.{sym, ◌∙◌, ap, arith}
 use Rattle.std.proofs.lemmas.Bool.{false≢true}
 use Prim.Native.Nat.{ℕ, zero, suc, ◌+◌, ◌-◌, ◌≤◌, ◌<◌}
 use Rattle.std.proofs.Math.Decide.{dec_lt}
 use borrow.Author.Tests.{le-leb, lt-ltb, leb-true, ltb-true, eqb-true, eq-eqb}
 use Rattle.std.proofs.Math.ListN.{get_or}
-use Rattle.table.specs.Anchors.{Anchor, anchors, first_start, next, distance}
+use Rattle.table.specs.Anchors.{Anchor, anchors, first_start, next}
 use Rattle.table.specs.WellFormed.{hyper_limit, latency_limit, first_start_limit, ◌and◌, fitting, spaced, measured, well_formed, next_start, WellFormed}
+use Rattle.refusal.specs.declared.Refusal.{Refusal}
+use Rattle.refusal.specs.Refusals.{refusal}
+use Rattle.table.specs.Reading.{checked}
 use Rattle.table.specs.Segments.{Spaced, Formed}
 use Rattle.table.specs.Places.{anchors_first, first_at, spaced_at, spaced_end, next_inner, next_last}
 
@@ -155,3 +158,23 @@ module _ (s v : List ℕ) (g H : ℕ) where
 -- what the answer of the test says
 pub well : (s v : List ℕ) (g H : ℕ) (w : Bool) → w ≡ well_formed s v g H → w ≡ true → WellFormed s v g H
 well s v g H w e k = (well_formed_iff s v g H).0 (sym e ∙ k)
+
+-- what an accepted check says
+pub checked_true : (s v : List ℕ) (g H : ℕ) (u : Unit {0}) → Ok u ≡ checked s v g H → well_formed s v g H ≡ true
+checked_true s v g H u e = go (well_formed s v g H) e
+  where
+    go : (w : Bool) → ◌≡◌ {A = Result (Unit {0}) Refusal} (Ok u) (cond w (Ok tt) (Err (refusal 14 0))) → w ≡ true
+    go true q = refl
+    go false q = absurd cc
+
+pub checked_well : (s v : List ℕ) (g H : ℕ) (u : Unit {0}) → Ok u ≡ checked s v g H → WellFormed s v g H
+checked_well s v g H u e = (well_formed_iff s v g H).0 (checked_true s v g H u e)
+
+-- what a refused check says of a call that begins with it
+pub checked_refused : {A : Type 0} (s v : List ℕ) (g H : ℕ) (r : Refusal) → Err r ≡ checked s v g H
+    → (x : Result A Refusal) → Err r ≡ cond (well_formed s v g H) x (Err (refusal 14 0))
+checked_refused {A} s v g H r e x = go (well_formed s v g H) e
+  where
+    go : (w : Bool) → ◌≡◌ {A = Result (Unit {0}) Refusal} (Err r) (cond w (Ok tt) (Err (refusal 14 0))) → ◌≡◌ {A = Result A Refusal} (Err r) (cond w x (Err (refusal 14 0)))
+    go true q = absurd cc
+    go false q = let i : r ≡ refusal 14 0 = cc in ap Err i

@@ -1,4 +1,5 @@
 pub mod Anchors
+pub mod OnTable
 pub mod WellFormed
 pub mod Reading
 pub mod Figures

@@ -1,8 +1,7 @@
 -- Document 01, "Reading a table": the delay that a table gives at a tick, and what the call answers.
-use Rattle.std.specs.Prelude.{◌≡◌, cond, List, [], ◌∷◌, ℕ, ◌+◌, ◌-◌, ◌%◌, leb, ltb}
+use Rattle.std.specs.Prelude.{◌≡◌, cond, List, [], ◌∷◌, ℕ, ◌+◌, ◌-◌, ◌%◌, leb, ltb, Err, Ok, Result}
+use Rattle.refusal.specs.declared.Refusal.{Refusal}
 use Rattle.refusal.specs.Refusals.{refusal}
-use Rattle.table.specs.declared.Reading.{Reading}
-use Rattle.table.specs.declared.Reading.TheVariants.{Delay, Refused}
 use Rattle.table.specs.Anchors.{Anchor, anchors, first_start}
 use Rattle.table.specs.WellFormed.{well_formed}
 
@@ -24,19 +23,23 @@ delay_at H (x ∷ l) t = let u : ℕ = x.start + (t - x.start) % H in gives u (l
 abbrev pub upper_tick : ℕ
 upper_tick = 1000000000000
 
+-- The check that the calls on a table begin with. 14: not well-formed.
+abbrev pub checked : List ℕ → List ℕ → ℕ → ℕ → Result (Unit {0}) Refusal
+checked starts latencies g H = cond (well_formed starts latencies g H) (Ok tt) (Err (refusal 14 0))
+
 -- Reading a table at t. 14: not well-formed; 12: t below first start; 13: t above the upper tick; else the delay.
-unfoldable pub reading : List ℕ → List ℕ → ℕ → ℕ → ℕ → Reading
+unfoldable pub reading : List ℕ → List ℕ → ℕ → ℕ → ℕ → Result ℕ Refusal
 reading starts latencies g H t =
     cond (well_formed starts latencies g H)
     (cond (ltb t (first_start (anchors starts latencies g)))
-    (Refused (refusal 12 0))
-    (cond (ltb upper_tick t) (Refused (refusal 13 0)) (Delay (delay_at H (anchors starts latencies g) t))))
-    (Refused (refusal 14 0))
+    (Err (refusal 12 0))
+    (cond (ltb upper_tick t) (Err (refusal 13 0)) (Ok (delay_at H (anchors starts latencies g) t))))
+    (Err (refusal 14 0))
 
 -- The answer for C, one number: the delay, or 2^32 + the refusal's number. That a delay lies below 2^32 is `word_small` in Words.
-abbrev pub word_of : Reading → ℕ
-word_of (Delay d) = d
-word_of (Refused r) = 4294967296 + r.number
+abbrev pub word_of : Result ℕ Refusal → ℕ
+word_of (Ok d) = d
+word_of (Err r) = 4294967296 + r.number
 
 -- The call for C.
 abbrev pub GivesWord : List ℕ → List ℕ → ℕ → ℕ → ℕ → ℕ → Type 0

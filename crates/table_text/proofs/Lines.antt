@@ -3,7 +3,8 @@ use Prim.Native.Nat.{ℕ, ◌+◌, ◌*◌, ◌≤◌, ◌<◌}
 use native.Mathlib.Omega.{arith}
 use mathlib.Core.Path.{◌≡◌, refl, subst}
 use mathlib.Core.List.{List, [], ◌∷◌}
-use lib.ListN.{length, drop, get_or}
+use lib.ListN.{length, take, drop, get_or}
+use Rattle.std.proofs.lemmas.List.{get_or-take}
 use Rattle.table.specs.Anchors.{Anchor, anchors}
 use Rattle.table.specs.Figures.{greatest, low}
 use Rattle.figures.specs.Figures.{doubled_area}
@@ -19,13 +20,14 @@ pub record Left (text : List ℕ) (at : ℕ) (old : List ℕ) (rest : List ℕ) 
 pub left_all : (text : List ℕ) (at : ℕ) (old : List ℕ) → Left text at old text at old
 left_all text at old = record { whole = λ last to p. p }
 
-pub anchor_turn : (s v : List ℕ) (g : ℕ) → g ≤ length s → g ≤ length v → (i : ℕ) → i < g → (text old m n : List ℕ) (at here to : ℕ)
-    → Left text at old (anchor_lines (drop i (anchors s v g))) here m
-    → Puts (line (ascii "a") (get_or s i 0 ∷ get_or v i 0 ∷ [])) here m n to
-    → Left text at old (anchor_lines (drop (i + 1) (anchors s v g))) to n
+-- anchor i is the pair of the two lists' first g entries at i
+pub anchor_turn : (s v : List ℕ) (g : ℕ) → g ≤ length s → g ≤ length v → (i x y : ℕ) → i < g → x ≡ get_or (take g s) i 0 → y ≡ get_or (take g v) i 0 → (text old m n : List ℕ) (at here to : ℕ)
+    → Left text at old (anchor_lines (drop i (anchors s v g))) here m → Puts (line (ascii "a") (x ∷ y ∷ [])) here m n to → Left text at old (anchor_lines (drop (i + 1) (anchors s v g))) to n
 unfolding anchor_lines
-anchor_turn s v g a b i h text old m n at here to left p = record {
-  whole = λ last end q. left.whole last end (rw (anchors_at s v g a b i h) (puts_two (line (ascii "a") (get_or s i 0 ∷ get_or v i 0 ∷ [])) _ here to end m n last p q));
+anchor_turn s v g a b i x y h e f text old m n at here to left p = record {
+  whole = λ last end q.
+      left.whole last end
+      (rw (anchors_at s v g a b i h, ← get_or-take g s i 0 h, ← get_or-take g v i 0 h, ← e, ← f) (puts_two (line (ascii "a") (x ∷ y ∷ [])) _ here to end m n last p q));
 }
 
 pub anchor_end : (s v : List ℕ) (g i : ℕ) → i ≡ g → (text old m : List ℕ) (at here : ℕ) → Left text at old (anchor_lines (drop i (anchors s v g))) here m → Puts text at old m here

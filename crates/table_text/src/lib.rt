@@ -4,15 +4,16 @@
 
 ghost use Rattle.std.specs.Prelude.{◌≡◌, true, ◌+◌, ◌*◌, ◌≤◌, ◌<◌, length};
 ghost use Rattle.table.specs.Anchors.{anchors};
+ghost use Rattle.table.specs.OnTable.{of_table, anchors_of};
 ghost use Rattle.table.specs.WellFormed.{well_formed};
 ghost use Rattle.table.specs.Figures.{greatest, low};
 ghost use Rattle.text.specs.Text.{Puts};
 ghost use Rattle.table_text.specs.TableText.{refused_text, anchor_lines, head_text, mean_text, figures_text, text_of_table, longest_table};
 ghost use Rattle.table_text.specs.Widths.{FewDigits};
 
-use figures::{Greatest, Low, Mean};
 use maker::Figures;
 use refusal::Refusal;
+use table::Table;
 
 // ---- lines
 
@@ -36,70 +37,61 @@ fn put_head(out: &mut [u8], at: usize, f: Figures) -> usize
 }
 
 // The lines of the anchors, each of at most 22 bytes.
-fn put_anchors(out: &mut [u8], at: usize, starts: &[u64], latencies: &[u64], g: usize) -> usize
-    requires { (g ≤ length starts.now) × (g ≤ length latencies.now) × (at + 22 * g ≤ 120000) × FewDigits starts.now latencies.now g }
-    ensures { (Puts (anchor_lines (anchors starts.now latencies.now g)) at out.old out.new result) × (result ≤ at + 22 * g) }
+fn put_anchors(out: &mut [u8], at: usize, t: Table) -> usize
+    requires { (t.anchors ≤ length t.starts.now) × (t.anchors ≤ length t.latencies.now) × (at + 22 * t.anchors ≤ 120000) × FewDigits t.starts.now t.latencies.now t.anchors }
+    ensures { (Puts (anchor_lines (anchors_of t.entry)) at out.old out.new result) × (result ≤ at + 22 * t.entry.anchors) }
 {
     let mut end = at;
-    let mut i: usize = 0;
-    while i < g {
-        end = text::put_pair(out, end, b"a", starts[i], latencies[i]);
-        i += 1;
+    for (start, latency) in t.starts[..t.anchors].iter().zip(&t.latencies[..t.anchors]) {
+        end = text::put_pair(out, end, b"a", *start, *latency);
     }
     end
 }
 
 // ---- the figures of a well-formed table, which `figures` does not refuse
 
-fn greatest_of(starts: &[u64], latencies: &[u64], g: usize, h: u64) -> u64
-    requires { well_formed starts.now latencies.now g h ≡ true }
-    ensures { result ≡ greatest (anchors starts.now latencies.now g) }
+fn greatest_of(t: Table) -> u64
+    requires { of_table well_formed t ≡ true }
+    ensures { result ≡ greatest (anchors_of t.entry) }
 {
-    let v = figures::greatest_of(starts, latencies, g, h);
+    let v = figures::greatest_of(t);
     match v {
-        Greatest::Latency(x) => x,
-        Greatest::Refused(_) => 0,
+        Ok(x) => x,
+        Err(_) => 0,
     }
 }
 
-fn low_of(starts: &[u64], latencies: &[u64], g: usize, h: u64) -> u64
-    requires { well_formed starts.now latencies.now g h ≡ true }
-    ensures { result ≡ low h (anchors starts.now latencies.now g) }
+fn low_of(t: Table) -> u64
+    requires { of_table well_formed t ≡ true }
+    ensures { result ≡ low t.entry.hyperperiod (anchors_of t.entry) }
 {
-    let v = figures::low_of(starts, latencies, g, h);
+    let v = figures::low_of(t);
     match v {
-        Low::Limit(x) => x,
-        Low::Refused(_) => 0,
+        Ok(x) => x,
+        Err(_) => 0,
     }
 }
 
 // The line of the mean, with its two numbers.
-fn put_mean(out: &mut [u8], at: usize, starts: &[u64], latencies: &[u64], g: usize, h: u64) -> usize
-    requires { (well_formed starts.now latencies.now g h ≡ true) × (at ≤ 121000) }
-    ensures { (Puts (mean_text h (anchors starts.now latencies.now g)) at out.old out.new result) × (result ≤ at + 47) }
+fn put_mean(out: &mut [u8], at: usize, t: Table) -> usize
+    requires { (of_table well_formed t ≡ true) × (at ≤ 121000) }
+    ensures { (Puts (mean_text t.entry.hyperperiod (anchors_of t.entry)) at out.old out.new result) × (result ≤ at + 47) }
 {
-    let v = figures::mean_of(starts, latencies, g, h);
+    let v = figures::mean_of(t);
     match v {
-        Mean::Doubled { area, ticks } => text::put_pair(out, at, b"mean", area, ticks),
-        Mean::Refused(_) => at,
+        Ok(m) => text::put_pair(out, at, b"mean", m.doubled_area, m.doubled_ticks),
+        Err(_) => at,
     }
 }
 
 // The lines of greatest, low and mean.
-fn put_figures(
-    out: &mut [u8],
-    at: usize,
-    starts: &[u64],
-    latencies: &[u64],
-    g: usize,
-    h: u64,
-) -> usize
-    requires { (well_formed starts.now latencies.now g h ≡ true) × (at ≤ 120000) }
-    ensures { (Puts (figures_text h (anchors starts.now latencies.now g)) at out.old out.new result) × (result ≤ at + 97) }
+fn put_figures(out: &mut [u8], at: usize, t: Table) -> usize
+    requires { (of_table well_formed t ≡ true) × (at ≤ 120000) }
+    ensures { (Puts (figures_text t.entry.hyperperiod (anchors_of t.entry)) at out.old out.new result) × (result ≤ at + 97) }
 {
-    let a = text::put_line(out, at, b"max", greatest_of(starts, latencies, g, h));
-    let b = text::put_line(out, a, b"low", low_of(starts, latencies, g, h));
-    put_mean(out, b, starts, latencies, g, h)
+    let a = text::put_line(out, at, b"max", greatest_of(t));
+    let b = text::put_line(out, a, b"low", low_of(t));
+    put_mean(out, b, t)
 }
 
 // The text of a completed table.
@@ -107,8 +99,14 @@ pub fn put_table(out: &mut [u8], at: usize, f: Figures, starts: &[u64], latencie
     requires { (well_formed starts.now latencies.now f.anchors f.hyperperiod ≡ true) × (length starts.now ≡ 1024) × (length latencies.now ≡ 1024) × (f.anchors ≤ 1024) × (at ≤ 92000) }
     ensures { (Puts (text_of_table f (anchors starts.now latencies.now f.anchors)) at out.old out.new result) × (result ≤ at + longest_table) }
 {
+    let t = Table {
+        starts,
+        latencies,
+        anchors: f.anchors,
+        hyperperiod: f.hyperperiod,
+    };
     let a = put_head(out, at, f);
-    let b = put_anchors(out, a, starts, latencies, f.anchors);
-    let c = put_figures(out, b, starts, latencies, f.anchors, f.hyperperiod);
+    let b = put_anchors(out, a, t);
+    let c = put_figures(out, b, t);
     text::put_line(out, c, b"walked", f.walked)
 }

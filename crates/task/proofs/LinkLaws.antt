@@ -6,15 +6,13 @@ use Rattle.std.proofs.Common.{le-div_iff_mul-le, div-lt_iff_lt-mul, mul-le-mul_r
 use Rattle.std.proofs.Math.Nat.{lt-div-mul-add, div-mul-le_self, add-mul-div_right, suc-mul, add-mul}
 use Rattle.std.proofs.Math.Decide.{dec_le}
 use Rattle.std.proofs.Math.Path.{◌≡◌, refl, ap}
-use Rattle.std.specs.Prelude.{◌↔◌, Bool, ◌&&◌}
+use Rattle.std.specs.Prelude.{◌↔◌, Bool, ◌&&◌, None, Option, Some}
 use Rattle.std.proofs.Math.Bool.{true, false, cond}
 use Rattle.std.proofs.Math.Dec.{leb}
 use borrow.Author.Tests.{leb-true, leb-false, le-leb}
 use Rattle.task.specs.declared.Task.{Task}
 use Rattle.task.specs.declared.Place.{Place}
 use Rattle.task.specs.declared.Job.{Job}
-use Rattle.task.specs.declared.Latest.{Latest}
-use Rattle.task.specs.declared.Latest.TheVariants.{Of, Nothing}
 use Rattle.task.specs.Jobs.{place_of, read_of, write_of, readable_of, within_limits, Within, gap_limit, Limited}
 use Rattle.task.specs.Links.{Linked, earliest_from, earliest_after, latest_over, latest_by, forward_link, backward_link}
 
@@ -103,9 +101,9 @@ module _ (b : Place) (pos : 1 ≤ b.period) where
 -- ---- the latest job
 
 -- There is a latest job, and it is not before j.
-abbrev pub AtLeast : Latest → ℕ → Type 0
-AtLeast (Of i) j = j ≤ i.0
-AtLeast Nothing j = ⊥
+abbrev pub AtLeast : Option Job → ℕ → Type 0
+AtLeast (Some i) j = j ≤ i.0
+AtLeast None j = ⊥
 
 module _ (a : Place) (pos : 1 ≤ a.period) where
   -- The latest job whose read is d ticks or more before z is not before j exactly when job j is such a job.
@@ -113,7 +111,7 @@ module _ (a : Place) (pos : 1 ≤ a.period) where
   unfolding latest_over
   latest_over_holds d z j = go (leb (a.phase + d) z) refl
     where
-      go : (t : Bool) → leb (a.phase + d) z ≡ t → (read_of a j + d ≤ z) ↔ AtLeast (cond t (Of (record { 0 = (z - (a.phase + d)) / a.period })) Nothing) j
+      go : (t : Bool) → leb (a.phase + d) z ≡ t → (read_of a j + d ≤ z) ↔ AtLeast (cond t (Some (record { 0 = (z - (a.phase + d)) / a.period })) None) j
       go true e =
           let s : a.phase + d ≤ z = leb-true _ _ e in (
             λ l. (le-div_iff_mul-le pos).1 (omega arith),
@@ -166,7 +164,7 @@ module _ (a b : Place) where
       go (suc k) e = let f = forward_wait w.period_pos j (omega arith) in let g = rw e at f in omega (arith, w.period_max)
 
   -- A link goes backward in time.
-  pub backward_earlier : 1 ≤ a.period → (k : ℕ) (j : Job) → backward_link a b k ≡ Of j → readable_of a j.0 ≤ read_of b k
+  pub backward_earlier : 1 ≤ a.period → (k : ℕ) (j : Job) → backward_link a b k ≡ Some j → readable_of a j.0 ≤ read_of b k
   backward_earlier pos k j e = (link_backward pos j.0 k).1 (rw e (omega arith))
 
 -- ---- the same place at another time
@@ -195,12 +193,12 @@ module _ (a b : Place) (x q : ℕ) (s : Later a b x q) where
         rw (s.period, f) (add-mul-div_right (w - a.phase + (a.period - 1)) q pos)
 
     -- and so is the latest.
-    latest_later : (d z : ℕ) (j : Job) → latest_over a d z ≡ Of j → latest_over b d (z + x) ≡ Of (record { 0 = j.0 + q })
+    latest_later : (d z : ℕ) (j : Job) → latest_over a d z ≡ Some j → latest_over b d (z + x) ≡ Some (record { 0 = j.0 + q })
     unfolding latest_over
     latest_later d z j e = go (leb (a.phase + d) z) refl e
       where
-        go : (t : Bool) → leb (a.phase + d) z ≡ t → cond t (Of (record { 0 = (z - (a.phase + d)) / a.period })) Nothing ≡ Of j
-            → cond (leb (b.phase + d) (z + x)) (Of (record { 0 = (z + x - (b.phase + d)) / b.period })) Nothing ≡ Of (record { 0 = j.0 + q })
+        go : (t : Bool) → leb (a.phase + d) z ≡ t → cond {A = Option Job} t (Some (record { 0 = (z - (a.phase + d)) / a.period })) None ≡ Some j
+            → cond {A = Option Job} (leb (b.phase + d) (z + x)) (Some (record { 0 = (z + x - (b.phase + d)) / b.period })) None ≡ Some (record { 0 = j.0 + q })
         go true t h =
             let u : a.phase + d ≤ z = leb-true _ _ t in
             let i : ◌≡◌ {A = Job} (record { 0 = (z - (a.phase + d)) / a.period }) j = cc in
@@ -209,7 +207,7 @@ module _ (a b : Place) (x q : ℕ) (s : Later a b x q) where
         go false t h = absurd (let y : ◌≡◌ {A = ℕ} 0 1 = cc in omega arith)
 
     -- So is the link backward from a next place that is x ticks later too.
-    pub backward_later : (c d : Place) (r : ℕ) → Later c d x r → (k : ℕ) (j : Job) → backward_link a c k ≡ Of j → backward_link b d (k + r) ≡ Of (record { 0 = j.0 + q })
+    pub backward_later : (c d : Place) (r : ℕ) → Later c d x r → (k : ℕ) (j : Job) → backward_link a c k ≡ Some j → backward_link b d (k + r) ≡ Some (record { 0 = j.0 + q })
     unfolding backward_link
     backward_later c d r t k j e =
         let f : read_of d (k + r) ≡ read_of c k + x = omega (arith, t.phase, ap (λ (T : ℕ). (k + r) * T) t.period, add-mul k r c.period) in

@@ -9,7 +9,7 @@ ghost use Rattle.task.specs.Links.{earliest_from, earliest_after, latest_over, l
 
 // Document 01: period T, duration D and phase F.
 #[repr(C)]
-#[derive(Clone, Copy)]
+#[derive(Clone, Copy, PartialEq, Eq, Default, Debug)]
 pub struct Task {
     pub period: u64,
     pub duration: u64,
@@ -17,7 +17,7 @@ pub struct Task {
 }
 
 // A place of a chain: the values of its task, and the gap of order 5, the ticks after a write until the next place can read it.
-#[derive(Clone, Copy)]
+#[derive(Clone, Copy, PartialEq, Eq, Default, Debug)]
 pub struct Place {
     pub period: u64,
     pub duration: u64,
@@ -26,19 +26,12 @@ pub struct Place {
 }
 
 // A job's number, counted from 0.
-#[derive(Clone, Copy)]
+#[derive(Clone, Copy, PartialEq, Eq, Default, Debug)]
 pub struct Job(pub u64);
 
 // A point in time, in whole ticks.
-#[derive(Clone, Copy)]
+#[derive(Clone, Copy, PartialEq, Eq, Default, Debug)]
 pub struct Tick(pub u64);
-
-// The latest job that something holds of; there may be none.
-#[derive(Clone, Copy)]
-pub enum Latest {
-    Of(Job),
-    Nothing,
-}
 
 impl Task {
     // Whether period, duration and phase are inside document 01's limits.
@@ -46,19 +39,9 @@ impl Task {
     pub fn within_limits(self) -> bool
         ensures { result ≡ within_limits self }
     {
-        if self.period < 1 {
-            return false;
-        }
-        if 1000000 < self.period {
-            return false;
-        }
-        if self.duration < 1 {
-            return false;
-        }
-        if 4000000 < self.duration {
-            return false;
-        }
-        self.phase <= 1000000
+        (1..=1000000).contains(&self.period)
+            && (1..=4000000).contains(&self.duration)
+            && self.phase <= 1000000
     }
 }
 
@@ -88,6 +71,7 @@ impl Place {
     }
 
     // The earliest job that reads at or after tick w.
+    #[tactic(auto, using(crate::proofs::Closed::earliest_zero, crate::proofs::Closed::earliest_past))]
     pub fn earliest_from(self, w: Tick) -> Job
         requires { 1 ≤ self.period }
         ensures { result.0 ≡ earliest_from self w.0 }
@@ -99,6 +83,7 @@ impl Place {
     }
 
     // The earliest job that reads strictly after tick t.
+    #[tactic(auto, using(crate::proofs::Closed::earliest_zero, crate::proofs::Closed::earliest_past))]
     pub fn earliest_after(self, t: Tick) -> Job
         requires { (1 ≤ self.period) × (t.0 ≤ 2000000000000) }
         ensures { result.0 ≡ earliest_after self t.0 }
@@ -110,21 +95,22 @@ impl Place {
     }
 
     // The latest job whose read is `ticks` ticks or more before tick z; there may be none.
-    fn latest_over(self, ticks: u64, z: Tick) -> Latest
+    #[tactic(auto, using(crate::proofs::Closed::latest_none, crate::proofs::Closed::latest_some))]
+    fn latest_over(self, ticks: u64, z: Tick) -> Option<Job>
         requires { 1 ≤ self.period }
         ensures { result ≡ latest_over self ticks z.0 }
     {
         if z.0 < self.phase {
-            return Latest::Nothing;
+            return None;
         }
         if z.0 - self.phase < ticks {
-            return Latest::Nothing;
+            return None;
         }
-        Latest::Of(Job((z.0 - self.phase - ticks) / self.period))
+        Some(Job((z.0 - self.phase - ticks) / self.period))
     }
 
     // The latest job that writes at or before tick z; there may be none.
-    pub fn latest_by(self, z: Tick) -> Latest
+    pub fn latest_by(self, z: Tick) -> Option<Job>
         requires { 1 ≤ self.period }
         ensures { result ≡ latest_by self z.0 }
     {
@@ -132,6 +118,7 @@ impl Place {
     }
 
     // Forward over one link: the next place's earliest job that reads at or after job j's write and the gap.
+    #[tactic(auto, unfolding(crate::specs::Links::forward_link))]
     pub fn forward_to(self, next: Place, j: Job) -> Job
         requires { (1 ≤ next.period) × (readable_of self j.0 ≤ 2000000000000) }
         ensures { result.0 ≡ forward_link self next j.0 }
@@ -140,7 +127,8 @@ impl Place {
     }
 
     // Backward over one link: the previous place's latest job whose write and the gap are over by job k's read; there may be none.
-    pub fn backward_to(self, previous: Place, k: Job) -> Latest
+    #[tactic(auto, unfolding(crate::specs::Links::backward_link))]
+    pub fn backward_to(self, previous: Place, k: Job) -> Option<Job>
         requires { (1 ≤ previous.period) × (read_of self k.0 ≤ 2000000000000) × (previous.duration + previous.gap ≤ 2000000000000) }
         ensures { result ≡ backward_link previous self k.0 }
     {

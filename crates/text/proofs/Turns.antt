@@ -1,25 +1,10 @@
--- The loop over a word, the digits of a number, and lines from their parts.
-use Prim.Native.Nat.{ℕ, suc, ◌+◌, ◌/◌, ◌%◌, ◌≤◌, ◌<◌}
-use native.Mathlib.Numerals.{add-one}
+-- The digits of a number, and lines from their parts.
+use Prim.Native.Nat.{ℕ, ◌+◌, ◌/◌, ◌%◌, ◌≤◌, ◌<◌}
 use native.Mathlib.Omega.{arith}
-use mathlib.Core.Path.{◌≡◌}
 use mathlib.Core.List.{List, [], ◌∷◌}
-use lib.ListN.{length, drop, get_or, set, drop_of_length-le}
-use lib.Seq.{sets, drop-cons}
 use Rattle.text.specs.Text.{blank, line_feed, digit, decimal, fields, line, Puts}
 use Rattle.text.specs.Decimal.{decimal_one, decimal_more, decimal_20}
 use Rattle.text.specs.Putting.{puts_two}
-
--- ---- a word
-
-pub word_turn : (out m word : List ℕ) (at i : ℕ) → i < length word → m ≡ set out (at + i) (get_or word i 0)
-    → sets out (at + i) (drop i word) ≡ sets m (at + (i + 1)) (drop (i + 1) word)
-word_turn out m word at i h e =
-    let s : at + (i + 1) ≡ suc (at + i) = omega arith in
-    rw (drop-cons word i 0 h, e, s, add-one)
-
-pub word_end : (out word : List ℕ) (at i : ℕ) → length word ≤ i → sets out at (drop i word) ≡ out
-word_end out word at i h = rw (drop_of_length-le word {i = i} h)
 
 -- ---- the digits of a number
 

@@ -2,28 +2,21 @@
 // bytes past the end of the lent list are left out, so a text that is too long is cut. What the functions require, small offsets, is proved by the crates that call them.
 #![tactic(auto)]
 
-ghost use Rattle.std.specs.Prelude.{◌≡◌, [], ◌∷◌, ◌+◌, ◌≤◌, ◌<◌, length, set};
+ghost use Rattle.std.specs.Prelude.{◌≡◌, [], ◌∷◌, ◌+◌, ◌≤◌, ◌<◌, length};
 ghost use Rattle.text.specs.Text.{decimal, line, blank, Puts};
 
 const BLANK: u8 = 32;
 
 const LINE_FEED: u8 = 10;
 
-// Stores a byte where the list is long enough.
-fn store(out: &mut [u8], at: usize, b: u8)
-    ensures { out.new ≡ set out.old at b }
-{
-    if at < out.len() {
-        out[at] = b;
-    }
-}
-
-// One byte.
+// One byte, stored where the list is long enough.
 fn put_byte(out: &mut [u8], at: usize, b: u8) -> usize
     requires { at ≤ 1000000 }
     ensures { Puts (b ∷ []) at out.old out.new result }
 {
-    store(out, at, b);
+    if at < out.len() {
+        out[at] = b;
+    }
     at + 1
 }
 
@@ -32,12 +25,11 @@ fn put_word(out: &mut [u8], at: usize, word: &[u8]) -> usize
     requires { at + length word.now ≤ 1000000 }
     ensures { Puts word.now at out.old out.new result }
 {
-    let mut i: usize = 0;
-    while i < word.len() {
-        store(out, at + i, word[i]);
-        i += 1;
+    let mut end = at;
+    for b in word {
+        end = put_byte(out, end, *b);
     }
-    at + i
+    end
 }
 
 // A number in plain decimal: the digits before the last one, then that one.

@@ -1,14 +1,12 @@
 -- A chain at another time: where every place reads and writes x ticks later, so do the ways, backward where there is a job, forward after the warm-up job, and the delay from the warm-up tick on.
 -- Periodicity is the case of the chain itself, a hyperperiod later.
-use Rattle.std.specs.Prelude.{ℕ, zero, suc, ◌+◌, ◌*◌, ◌/◌, ◌≤◌, ◌<◌, ◌≡◌, refl, List, length}
+use Rattle.std.specs.Prelude.{ℕ, zero, suc, ◌+◌, ◌*◌, ◌/◌, ◌≤◌, ◌<◌, ◌≡◌, refl, List, length, None, Option, Some}
 use native.Mathlib.Omega.{arith}
 use Rattle.std.proofs.Math.Decide.{dec_lt}
 use Rattle.std.proofs.Common.{sym, ◌∙◌}
 use Rattle.std.proofs.Math.Path.{ap}
 use Rattle.task.specs.declared.Place.{Place}
 use Rattle.task.specs.declared.Job.{Job}
-use Rattle.task.specs.declared.Latest.{Latest}
-use Rattle.task.specs.declared.Latest.TheVariants.{Of, Nothing}
 use Rattle.task.specs.Jobs.{write_of}
 use Rattle.task.specs.Links.{earliest_from, earliest_after, backward_link}
 use Rattle.task.proofs.LinkLaws.{Later, periods_later, read_later, earliest_later, backward_later, earliest_reads, read_mono}
@@ -26,8 +24,8 @@ abbrev pub ShiftedTo : List Place → List Place → ℕ → (ℕ → ℕ) → �
 ShiftedTo l k x jobs p = (i : ℕ) → i ≤ p → (1 ≤ (at l i).period) × Later (at l i) (at k i) x (jobs i)
 
 -- The way backward then comes to a job as much later,
-pub backward_shifts : (l k : List Place) (x : ℕ) (jobs : ℕ → ℕ) (p n : ℕ) → ShiftedTo l k x jobs (p + n) → (m : ℕ) (j : Job) → backward_by l p n m ≡ Of j
-    → backward_by k p n (m + jobs (p + n)) ≡ Of (record { 0 = j.0 + jobs p })
+pub backward_shifts : (l k : List Place) (x : ℕ) (jobs : ℕ → ℕ) (p n : ℕ) → ShiftedTo l k x jobs (p + n) → (m : ℕ) (j : Job) → backward_by l p n m ≡ Some j
+    → backward_by k p n (m + jobs (p + n)) ≡ Some (record { 0 = j.0 + jobs p })
 unfolding backward_by on_latest
 backward_shifts l k x jobs p zero w m j e =
     let z : p + 0 ≡ p = omega arith in
@@ -36,11 +34,11 @@ backward_shifts l k x jobs p zero w m j e =
 backward_shifts l k x jobs p (suc n) w m j e =
     go (backward_link (at l (p + n)) (at l (p + suc n)) m) refl e (λ i. backward_shifts l k x jobs p n (λ y g. w y (omega arith)) i j)
   where
-    go : (q : Latest) → backward_link (at l (p + n)) (at l (p + suc n)) m ≡ q → on_latest q (backward_by l p n) ≡ Of j
-        → ((i : ℕ) → backward_by l p n i ≡ Of j → backward_by k p n (i + jobs (p + n)) ≡ Of (record { 0 = j.0 + jobs p }))
-        → on_latest (backward_link (at k (p + n)) (at k (p + suc n)) (m + jobs (p + suc n))) (backward_by k p n) ≡ Of (record { 0 = j.0 + jobs p })
-    go Nothing a b ih = absurd (let y : ◌≡◌ {A = ℕ} 0 1 = cc in omega arith)
-    go (Of i) a b ih =
+    go : (q : Option Job) → backward_link (at l (p + n)) (at l (p + suc n)) m ≡ q → on_latest q (backward_by l p n) ≡ Some j
+        → ((i : ℕ) → backward_by l p n i ≡ Some j → backward_by k p n (i + jobs (p + n)) ≡ Some (record { 0 = j.0 + jobs p }))
+        → on_latest (backward_link (at k (p + n)) (at k (p + suc n)) (m + jobs (p + suc n))) (backward_by k p n) ≡ Some (record { 0 = j.0 + jobs p })
+    go None a b ih = absurd (let y : ◌≡◌ {A = ℕ} 0 1 = cc in omega arith)
+    go (Some i) a b ih =
         let u = w (p + suc n) (omega arith) in
         let v = w (p + n) (omega arith) in
         rw (backward_later (at l (p + n)) (at k (p + n)) x (jobs (p + n)) v.1 v.0 (at l (p + suc n)) (at k (p + suc n)) (jobs (p + suc n)) u.1 m i a) (ih i.0 b)
@@ -54,9 +52,9 @@ count_shifts l k x jobs p n w (suc m) g =
     let e : suc m + jobs (p + n) ≡ suc (m + jobs (p + n)) = omega arith in
     rw e (go (backward_by l p n m) refl g)
   where
-    go : (q : Latest) → backward_by l p n m ≡ q → 0 < count_of q → count_of (backward_by k p n (m + jobs (p + n))) ≡ count_of q + jobs p
-    go (Of j) e g = let s : suc j.0 + jobs p ≡ suc (j.0 + jobs p) = omega arith in rw (backward_shifts l k x jobs p n w m j e, s)
-    go Nothing e g = absurd (omega arith)
+    go : (q : Option Job) → backward_by l p n m ≡ q → 0 < count_of q → count_of (backward_by k p n (m + jobs (p + n))) ≡ count_of q + jobs p
+    go (Some j) e g = let s : suc j.0 + jobs p ≡ suc (j.0 + jobs p) = omega arith in rw (backward_shifts l k x jobs p n w m j e, s)
+    go None e g = absurd (omega arith)
 
 -- ---- of a chain that passes the checks 8 and 5, all its places
 
@@ -106,8 +104,8 @@ repeats_shift : (l : List Place) (h p : ℕ) → Repeats h l p → ShiftedTo l l
 repeats_shift l h p w i g = let u = w i g in (u.0, periods_later (at l i) h (h / (at l i).period) u.1)
 
 -- h ticks later the way backward comes to a job h ticks later
-pub backward_repeats : (l : List Place) (h p n : ℕ) → Repeats h l (p + n) → (m : ℕ) (j : Job) → backward_by l p n m ≡ Of j
-    → backward_by l p n (m + h / (at l (p + n)).period) ≡ Of (record { 0 = j.0 + h / (at l p).period })
+pub backward_repeats : (l : List Place) (h p n : ℕ) → Repeats h l (p + n) → (m : ℕ) (j : Job) → backward_by l p n m ≡ Some j
+    → backward_by l p n (m + h / (at l (p + n)).period) ≡ Some (record { 0 = j.0 + h / (at l p).period })
 backward_repeats l h p n w m j e = backward_shifts l l h (λ i. h / (at l i).period) p n (repeats_shift l h (p + n) w) m j e
 
 module _ (l : List Place) (ok : Sound l) where
@@ -118,8 +116,8 @@ module _ (l : List Place) (ok : Sound l) where
   whole = let e : 0 + last_place l ≡ last_place l = omega arith in rw e (hyper_repeats (last_place l) (omega (arith, ok.some)))
 
   -- A hyperperiod later the whole way backward comes to a job a hyperperiod later,
-  pub back_period : (k : ℕ) (j : Job) → back l k ≡ Of j
-      → back l (k + hyper_of l / (at l (last_place l)).period) ≡ Of (record { 0 = j.0 + hyper_of l / (at l 0).period })
+  pub back_period : (k : ℕ) (j : Job) → back l k ≡ Some j
+      → back l (k + hyper_of l / (at l (last_place l)).period) ≡ Some (record { 0 = j.0 + hyper_of l / (at l 0).period })
   back_period k j e =
       let z : 0 + last_place l ≡ last_place l = omega arith in
       let f = backward_repeats l (hyper_of l) 0 (last_place l) whole k j e in

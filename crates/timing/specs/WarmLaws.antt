@@ -1,12 +1,10 @@
 -- Warm-up: Wn is the least job from which the backward steps reach the first place (`warm_least`), and from it on every way backward has its end.
-use Rattle.std.specs.Prelude.{ℕ, suc, ◌+◌, ◌-◌, ◌≤◌, ◌<◌, ◌≡◌, ◌↔◌, true, false, List, length}
+use Rattle.std.specs.Prelude.{ℕ, suc, ◌+◌, ◌-◌, ◌≤◌, ◌<◌, ◌≡◌, ◌↔◌, true, false, List, length, None, Option, Some}
 use native.Mathlib.Omega.{arith}
 use Rattle.std.proofs.Math.Path.{refl, ap}
 use Rattle.std.proofs.Common.{sym, ◌∙◌}
 use Rattle.task.specs.declared.Place.{Place}
 use Rattle.task.specs.declared.Job.{Job}
-use Rattle.task.specs.declared.Latest.{Latest}
-use Rattle.task.specs.declared.Latest.TheVariants.{Of, Nothing}
 use Rattle.task.proofs.LinkLaws.{AtLeast}
 use Rattle.chain.specs.Chains.{at, last_place, forward_by, backward_by, on_latest, walk, back, job_of}
 use Rattle.chain.specs.Checks.{Sound}
@@ -20,29 +18,29 @@ use Rattle.ranges.proofs.LeastLaws.{least_end}
 
 -- ---- a job that is there
 
-pub record Found (q : Latest) : Type 0 where
+pub record Found (q : Option Job) : Type 0 where
   pub job : Job
-  pub is : q ≡ Of job
+  pub is : q ≡ Some job
 
-pub found : (q : Latest) (j : ℕ) → AtLeast q j → Found q
-found (Of i) j h = record { job = i; is = refl }
-found Nothing j h = absurd h
+pub found : (q : Option Job) (j : ℕ) → AtLeast q j → Found q
+found (Some i) j h = record { job = i; is = refl }
+found None j h = absurd h
 
-pub at_least_job : (q : Latest) (j : ℕ) → AtLeast q j → j ≤ job_of q
-at_least_job (Of i) j h = h
-at_least_job Nothing j h = absurd h
+pub at_least_job : (q : Option Job) (j : ℕ) → AtLeast q j → j ≤ job_of q
+at_least_job (Some i) j h = h
+at_least_job None j h = absurd h
 
-pub job_at_least : (q : Latest) (j : ℕ) → AtLeast q j → AtLeast q (job_of q)
-job_at_least (Of i) j h = omega arith
-job_at_least Nothing j h = absurd h
+pub job_at_least : (q : Option Job) (j : ℕ) → AtLeast q j → AtLeast q (job_of q)
+job_at_least (Some i) j h = omega arith
+job_at_least None j h = absurd h
 
-is_job_holds : (q : Latest) → AtLeast q 0 → is_job q ≡ true
-is_job_holds (Of i) h = refl
-is_job_holds Nothing h = absurd h
+is_job_holds : (q : Option Job) → AtLeast q 0 → is_job q ≡ true
+is_job_holds (Some i) h = refl
+is_job_holds None h = absurd h
 
-no_job_holds : (q : Latest) → (AtLeast q 0 → ⊥) → is_job q ≡ false
-no_job_holds (Of i) h = absurd (h (omega arith))
-no_job_holds Nothing h = refl
+no_job_holds : (q : Option Job) → (AtLeast q 0 → ⊥) → is_job q ≡ false
+no_job_holds (Some i) h = absurd (h (omega arith))
+no_job_holds None h = refl
 
 -- ---- of a chain that passes the checks 8 and 5
 
@@ -86,7 +84,7 @@ module _ (l : List Place) (ok : Sound l) where
   back_there k h = found (back l k) 0 ((way 0 k).0 (omega (arith, warm_walk)))
 
   -- W1 is where the way backward from Wn ends
-  pub warm_first : back l (warm_last l) ≡ Of (record { 0 = warm_at l 0 })
+  pub warm_first : back l (warm_last l) ≡ Some (record { 0 = warm_at l 0 })
   unfolding warm_at
   warm_first =
       let z : last_place l - 0 ≡ last_place l = omega arith in
@@ -140,10 +138,10 @@ module _ (l : List Place) (ok : Sound l) where
       let f = warm_found (p + 1) h in
       let z : p + 0 ≡ p = omega arith in
       ap (λ (n : ℕ). job_of (backward_by l p n (warm_last l))) e ∙ ap job_of (backward_cut l p 1 (last_place l - (p + 1)) (warm_last l))
-      ∙ ap (λ (q : Latest). job_of (on_latest q (backward_by l p 1))) f.is
+      ∙ ap (λ (q : Option Job). job_of (on_latest q (backward_by l p 1))) f.is
       ∙ ap (λ (n : ℕ). job_of (on_latest (backward_link (at l n) (at l (p + 1)) f.job.0) (backward_by l p 0))) z
-      ∙ one (backward_link (at l p) (at l (p + 1)) f.job.0) ∙ ap (λ (q : Latest). job_of (backward_link (at l p) (at l (p + 1)) (job_of q))) (sym f.is)
+      ∙ one (backward_link (at l p) (at l (p + 1)) f.job.0) ∙ ap (λ (q : Option Job). job_of (backward_link (at l p) (at l (p + 1)) (job_of q))) (sym f.is)
     where
-      one : (q : Latest) → job_of (on_latest q (backward_by l p 0)) ≡ job_of q
-      one (Of j) = refl
-      one Nothing = refl
+      one : (q : Option Job) → job_of (on_latest q (backward_by l p 0)) ≡ job_of q
+      one (Some j) = refl
+      one None = refl

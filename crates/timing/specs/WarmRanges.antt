@@ -1,9 +1,8 @@
 -- The ranges of warm-up, delay and age, by which nothing overflows, of a chain that passes the checks 8 and 5.
-use Rattle.std.specs.Prelude.{ℕ, ◌+◌, ◌-◌, ◌≤◌, ◌<◌, ◌≡◌, List, length}
+use Rattle.std.specs.Prelude.{ℕ, ◌+◌, ◌-◌, ◌≤◌, ◌<◌, ◌≡◌, List, length, Some}
 use Rattle.std.proofs.Common.{arith}
 use Rattle.task.specs.declared.Place.{Place}
 use Rattle.task.specs.declared.Job.{Job}
-use Rattle.task.specs.declared.Latest.TheVariants.{Of}
 use Rattle.task.specs.Jobs.{read_of, write_of}
 use Rattle.task.specs.Links.{earliest_after, latest_by}
 use Rattle.task.proofs.LinkLaws.{earliest_reads, earliest_soon, latest_is}
@@ -30,7 +29,7 @@ module _ (l : List Place) (ok : Sound l) where
       let f = forward_late l ok 0 (last_place l) (omega arith) last_in j in
       rw z at f
 
-  pub back_early : (k : ℕ) (j : Job) → back l k ≡ Of j → read_of (at l 0) j.0 ≤ read_of (at l (last_place l)) k
+  pub back_early : (k : ℕ) (j : Job) → back l k ≡ Some j → read_of (at l 0) j.0 ≤ read_of (at l (last_place l)) k
   back_early k j e =
       let z : last_place l - 0 ≡ last_place l = omega arith in
       backward_fits l ok 0 (last_place l) (omega arith) last_in k j (rw z e)
@@ -64,5 +63,5 @@ module _ (l : List Place) (ok : Sound l) where
   press_late t = omega (arith, earliest_reads (at l 0) (ok.each 0 ok.some).period_pos (t + 1))
 
   -- The latest job of the last place that writes by z reads by z.
-  pub latest_fits : (z : ℕ) (k : Job) → latest_by (at l (last_place l)) z ≡ Of k → write_of (at l (last_place l)) k.0 ≤ z
+  pub latest_fits : (z : ℕ) (k : Job) → latest_by (at l (last_place l)) z ≡ Some k → write_of (at l (last_place l)) k.0 ≤ z
   latest_fits z k e = (latest_is (at l (last_place l)) (ok.each (last_place l) last_in).period_pos z k.0).1 (rw e (omega arith))

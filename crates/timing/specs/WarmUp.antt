@@ -1,15 +1,14 @@
 -- Document 01, "Chains": the warm-up jobs W1 to Wn and the warm-up tick x0. Places are counted from 0 here: W1 is `warm_at l 0`.
-use Rattle.std.specs.Prelude.{ℕ, ◌-◌, Bool, true, false, List}
+use Rattle.std.specs.Prelude.{ℕ, ◌-◌, Bool, true, false, List, None, Option, Some}
+use Rattle.task.specs.declared.Job.{Job}
 use Rattle.task.specs.declared.Place.{Place}
-use Rattle.task.specs.declared.Latest.{Latest}
-use Rattle.task.specs.declared.Latest.TheVariants.{Of, Nothing}
 use Rattle.task.specs.Jobs.{read_of}
 use Rattle.chain.specs.Chains.{at, last_place, backward_by, walk, back, job_of}
 use Rattle.ranges.specs.Least.{least_from}
 
-abbrev pub is_job : Latest → Bool
-is_job (Of j) = true
-is_job Nothing = false
+abbrev pub is_job : Option Job → Bool
+is_job (Some j) = true
+is_job None = false
 
 -- The backward steps from job k at the last place reach the first place.
 abbrev pub reaches : List Place → ℕ → Bool

@@ -1,20 +1,16 @@
 -- Order 5: with a gap of 0 every answer is the old one. Warm-up, delay and age as document 01 alone has them, on the tasks that are given; with gap 0 the calls answer these
 -- (`warm_up_without`, `delay_answer_without`, `age_answer_without`). The same of anchors, windows and bookings: WithoutGap in partition, windows and bookings.
-use Rattle.std.specs.Prelude.{ℕ, zero, suc, ◌+◌, ◌-◌, ◌≤◌, ◌<◌, ◌≡◌, Bool, cond, List, ltb, length, replicate}
+use Rattle.std.specs.Prelude.{ℕ, zero, suc, ◌+◌, ◌-◌, ◌≤◌, ◌<◌, ◌≡◌, Bool, cond, List, ltb, length, Err, None, Ok, Option, Result, Some}
 use Rattle.std.proofs.Common.{arith, sym, ◌∙◌, lt-ltb, le-ltb}
 use Rattle.std.proofs.Math.Decide.{dec_lt}
 use Rattle.std.proofs.Math.Path.{refl, ap}
 use Rattle.std.proofs.lemmas.List.{length-map}
-use Rattle.refusal.specs.Refusals.{none}
+use Rattle.refusal.specs.declared.Refusal.{Refusal}
 use Rattle.task.specs.declared.Task.{Task}
 use Rattle.task.specs.declared.Place.{Place}
 use Rattle.task.specs.declared.Job.{Job}
-use Rattle.task.specs.declared.Latest.{Latest}
-use Rattle.task.specs.declared.Latest.TheVariants.{Of, Nothing}
 use Rattle.task.specs.Jobs.{place_of, read_of, write_of}
 use Rattle.task.specs.Links.{earliest_from, earliest_after, latest_over, latest_by}
-use Rattle.chain.specs.declared.Verdict.{Verdict}
-use Rattle.chain.specs.declared.Verdict.TheVariants as verdict
 use Rattle.chain.specs.Chains.{placed, at, last_place, forward_by, backward_by, on_latest, walk, back, job_of}
 use Rattle.chain.specs.Placed.{at_placed}
 use Rattle.ranges.specs.Entries.{entries, entries_length, entries_at, entries_are}
@@ -23,7 +19,6 @@ use Rattle.chain.specs.WithoutGap.{task_at, read_plain, write_plain, earliest_pl
 use Rattle.chain.proofs.CheckLaws.{accepted_in}
 use Rattle.ranges.specs.Least.{least_from}
 use Rattle.timing.specs.declared.WarmUp.{WarmUp}
-use Rattle.timing.specs.declared.Span.{Span}
 use Rattle.timing.specs.WarmUp.{is_job, reaches, warm_last, warm_at, warm_tick}
 use Rattle.timing.specs.Delay.{delay_at, first_aged, age_at}
 use Rattle.timing.specs.Answers.{warm_entry, warm_up_after, warm_up_in, span_after, delay_in, age_in}
@@ -54,16 +49,16 @@ first_aged_plain l = write_plain (task_at l (last l)) (warm_last_plain l)
 abbrev pub age_plain : List Task → ℕ → ℕ
 age_plain l z = z - read_plain (task_at l 0) (job_of (on_latest (latest_plain (task_at l (last l)) z) (backward_way l 0 (last l))))
 
--- Warm-up answers W1 to Wn, with 0 past the places, x0 and H; a refusal has zeros everywhere else.
+-- Warm-up answers W1 to Wn, with 0 past the places, x0 and H, or a refusal alone.
 abbrev job : ℕ → Job
 job n = record { 0 = n }
 
 abbrev pub warm_entry_plain : List Task → ℕ → Job
 warm_entry_plain l p = cond (ltb p (length l)) (job (warm_plain l p)) (job 0)
 
-abbrev pub warm_up_plain : List Task → Verdict → WarmUp
-warm_up_plain l (verdict.Accepted h) = record { refusal = none; jobs = entries (warm_entry_plain l) 0 12; tick = record { 0 = warm_tick_plain l }; hyperperiod = h }
-warm_up_plain l (verdict.Refused r) = record { refusal = r; jobs = replicate 12 (job 0); tick = record { 0 = 0 }; hyperperiod = 0 }
+abbrev pub warm_up_plain : List Task → Result ℕ Refusal → Result WarmUp Refusal
+warm_up_plain l (Ok h) = Ok (record { jobs = entries (warm_entry_plain l) 0 12; tick = record { 0 = warm_tick_plain l }; hyperperiod = h })
+warm_up_plain l (Err r) = Err r
 
 -- ---- they are those of gap 0
 
@@ -111,11 +106,11 @@ module _ (l : List Task) (some : 1 ≤ length l) where
   age_without z =
       ap (λ (a : Place). z - read_of a (job_of (on_latest (latest_by (at L (last_place L)) z) (back L)))) (at_placed 0 l 0 some)
       ∙ ap (λ (a : Place). z - read_plain (task_at l 0) (job_of (on_latest (latest_by a z) (back L)))) last_place_holds
-      ∙ ap (λ (q : Latest). z - read_plain (task_at l 0) (job_of q)) (go (latest_plain (task_at l (last l)) z))
+      ∙ ap (λ (q : Option Job). z - read_plain (task_at l 0) (job_of q)) (go (latest_plain (task_at l (last l)) z))
     where
-      go : (q : Latest) → on_latest q (back L) ≡ on_latest q (backward_way l 0 (last l))
-      go Nothing = refl
-      go (Of k) = back_without k.0
+      go : (q : Option Job) → on_latest q (back L) ≡ on_latest q (backward_way l 0 (last l))
+      go None = refl
+      go (Some k) = back_without k.0
 
   pub tick_without : warm_tick L ≡ warm_tick_plain l
   unfolding warm_tick
@@ -138,7 +133,7 @@ module _ (l : List Task) (some : 1 ≤ length l) where
 -- ---- and so are the answers
 
 -- an accepted list has a place
-accepted_some : (l : List Task) (h : ℕ) → verdict_in 0 l ≡ verdict.Accepted h → 1 ≤ length l
+accepted_some : (l : List Task) (h : ℕ) → verdict_in 0 l ≡ Ok h → 1 ≤ length l
 accepted_some l h e = omega (arith, (accepted_in 0 l h e).sound.some, length-map l (place_of 0))
 
 module _ (l : List Task) where
@@ -146,22 +141,22 @@ module _ (l : List Task) where
   unfolding warm_up_after
   warm_up_without = go (verdict_in 0 l) refl ∙ ap (warm_up_plain l) (verdict_without l (length l))
     where
-      go : (v : Verdict) → verdict_in 0 l ≡ v → warm_up_after (placed 0 l) v ≡ warm_up_plain l v
-      go (verdict.Refused r) e = refl
-      go (verdict.Accepted h) e = let some = accepted_some l h e in rw (tick_without l some, entries_without l some)
+      go : (v : Result ℕ Refusal) → verdict_in 0 l ≡ v → warm_up_after (placed 0 l) v ≡ warm_up_plain l v
+      go (Err r) e = refl
+      go (Ok h) e = let some = accepted_some l h e in rw (tick_without l some, entries_without l some)
 
   pub delay_answer_without : (t : ℕ) → delay_in 0 l t ≡ span_after (verdict_plain (length l) l) (warm_tick_plain l) t (delay_plain l t)
   unfolding span_after
-  delay_answer_without t = go (verdict_in 0 l) refl ∙ ap (λ (v : Verdict). span_after v (warm_tick_plain l) t (delay_plain l t)) (verdict_without l (length l))
+  delay_answer_without t = go (verdict_in 0 l) refl ∙ ap (λ (v : Result ℕ Refusal). span_after v (warm_tick_plain l) t (delay_plain l t)) (verdict_without l (length l))
     where
-      go : (v : Verdict) → verdict_in 0 l ≡ v → span_after v (warm_tick (placed 0 l)) t (delay_at (placed 0 l) t) ≡ span_after v (warm_tick_plain l) t (delay_plain l t)
-      go (verdict.Refused r) e = refl
-      go (verdict.Accepted h) e = let some = accepted_some l h e in rw (tick_without l some, delay_without l some t)
+      go : (v : Result ℕ Refusal) → verdict_in 0 l ≡ v → span_after v (warm_tick (placed 0 l)) t (delay_at (placed 0 l) t) ≡ span_after v (warm_tick_plain l) t (delay_plain l t)
+      go (Err r) e = refl
+      go (Ok h) e = let some = accepted_some l h e in rw (tick_without l some, delay_without l some t)
 
   pub age_answer_without : (z : ℕ) → age_in 0 l z ≡ span_after (verdict_plain (length l) l) (first_aged_plain l) z (age_plain l z)
   unfolding span_after
-  age_answer_without z = go (verdict_in 0 l) refl ∙ ap (λ (v : Verdict). span_after v (first_aged_plain l) z (age_plain l z)) (verdict_without l (length l))
+  age_answer_without z = go (verdict_in 0 l) refl ∙ ap (λ (v : Result ℕ Refusal). span_after v (first_aged_plain l) z (age_plain l z)) (verdict_without l (length l))
     where
-      go : (v : Verdict) → verdict_in 0 l ≡ v → span_after v (first_aged (placed 0 l)) z (age_at (placed 0 l) z) ≡ span_after v (first_aged_plain l) z (age_plain l z)
-      go (verdict.Refused r) e = refl
-      go (verdict.Accepted h) e = let some = accepted_some l h e in rw (first_aged_without l some, age_without l some z)
+      go : (v : Result ℕ Refusal) → verdict_in 0 l ≡ v → span_after v (first_aged (placed 0 l)) z (age_at (placed 0 l) z) ≡ span_after v (first_aged_plain l) z (age_plain l z)
+      go (Err r) e = refl
+      go (Ok h) e = let some = accepted_some l h e in rw (first_aged_without l some, age_without l some z)

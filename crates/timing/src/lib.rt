@@ -1,6 +1,6 @@
 // Warm-up, delay and age of a chain.
 // Its calls `warm_up`, `delay` and `age` take any values, and so do those on a flat list T, D, F, T, D, F, .. of tasks, one for each place, which is lent and not copied, and a gap.
-// `warm_jobs`, `warm_tick` and `tick_refusal` are for the crates above; the first two on lists that `chain::check_on` accepted.
+// `warm_jobs`, `warm_tick` and `check_tick` are for the crates above; the first two on lists that `chain::check_on` accepted.
 #![tactic(auto)]
 
 ghost use Rattle.std.specs.Prelude.{◌≡◌, ◌-◌, ◌≤◌, ◌<◌};
@@ -8,26 +8,18 @@ ghost use Rattle.chain.specs.Checks.{Sound};
 ghost use Rattle.chain.specs.Flat.{given_in, tasks_in};
 ghost use Rattle.timing.specs.WarmUp.{warm_last, warm_tick};
 ghost use Rattle.timing.specs.Delay.{delay_at, first_aged, age_at};
-ghost use Rattle.timing.specs.Answers.{warm_entries, warm_up_of, warm_up_in, tick_refusal, delay_of, delay_in, age_of, age_in};
+ghost use Rattle.timing.specs.Answers.{warm_entries, warm_up_of, warm_up_in, tick_checked, delay_of, delay_in, age_of, age_in};
 
-use chain::{Chain, Verdict};
+use chain::Chain;
 use refusal::Refusal;
 use task::{Job, Place, Tick};
 
-// W1 to Wn, the warm-up tick x0 and the hyperperiod H. The refusal is number 0 at place 0 in a success; in a refusal all else is zero.
-#[derive(Clone, Copy)]
+// W1 to Wn with zeros past them, the warm-up tick x0 and the hyperperiod H.
+#[derive(Clone, Copy, PartialEq, Eq, Debug)]
 pub struct WarmUp {
-    pub refusal: Refusal,
     pub jobs: [Job; 12],
     pub tick: Tick,
     pub hyperperiod: u64,
-}
-
-// A delay or an age in ticks, or the refusal.
-#[derive(Clone, Copy)]
-pub enum Span {
-    Ticks(u64),
-    Refused(Refusal),
 }
 
 // ---- warm-up
@@ -41,17 +33,17 @@ fn warm_last(tasks: &[u64], gap: u64) -> Job
 }
 
 // W1 to Wn, and zeros past them: from Wn backward, a place at a time.
+#[tactic(auto, using(crate::proofs::Whole::some_place, crate::proofs::Whole::last_inside, crate::proofs::Whole::last_place_small, crate::proofs::Whole::warm_fits, crate::proofs::Entries::from_all))]
 pub fn warm_jobs(tasks: &[u64], gap: u64) -> [Job; 12]
     requires { Sound (tasks_in gap tasks.now) }
     ensures { result ≡ warm_entries (tasks_in gap tasks.now) }
 {
+    let last = tasks.len() / 3 - 1;
     let mut jobs = [Job(0); 12];
-    let mut i = tasks.len() / 3 - 1;
     let mut k = warm_last(tasks, gap);
-    let mut b = chain::task_at(tasks, gap, i);
-    jobs[i] = k;
-    while 0 < i {
-        i -= 1;
+    let mut b = chain::task_at(tasks, gap, last);
+    jobs[last] = k;
+    for i in (0..last).rev() {
         let a = chain::task_at(tasks, gap, i);
         k = chain::job_of(b.backward_to(a, k));
         jobs[i] = k;
@@ -73,39 +65,24 @@ pub fn warm_tick(tasks: &[u64], gap: u64) -> Tick
 }
 
 // Warm-up of a flat list of tasks and a gap.
-pub fn warm_up_on(tasks: &[u64], gap: u64) -> WarmUp
+#[tactic(auto, using(chain::proofs::CheckLaws::accepted_in, crate::proofs::Whole::warm_tick_fits, crate::proofs::Exits::warm_refused, crate::proofs::Exits::entry_job))]
+pub fn warm_up_on(tasks: &[u64], gap: u64) -> Result<WarmUp, Refusal>
     ensures { result ≡ warm_up_in gap (given_in tasks.now) }
 {
-    let v = chain::check_on(tasks, gap);
-    match v {
-        Verdict::Refused(r) => {
-            return WarmUp {
-                refusal: r,
-                jobs: [Job(0); 12],
-                tick: Tick(0),
-                hyperperiod: 0,
-            };
-        }
-        Verdict::Accepted(h) => {
-            let jobs = warm_jobs(tasks, gap);
-            let first = chain::task_at(tasks, gap, 0);
-            let j = jobs[0];
-            let tick = first.read(j);
-            WarmUp {
-                refusal: Refusal {
-                    number: 0,
-                    place: 0,
-                },
-                jobs,
-                tick,
-                hyperperiod: h,
-            }
-        }
-    }
+    let hyperperiod = chain::check_on(tasks, gap)?;
+    let jobs = warm_jobs(tasks, gap);
+    let first = chain::task_at(tasks, gap, 0);
+    let tick = first.read(jobs[0]);
+    Ok(WarmUp {
+        jobs,
+        tick,
+        hyperperiod,
+    })
 }
 
 // Document 01's warm-up: W1 to Wn, x0 and H; refusals 8, 5, 7.
-pub fn warm_up(c: Chain) -> WarmUp
+#[tactic(auto, using(chain::proofs::Filling::lent, crate::specs::Standing::warm_up_stands))]
+pub fn warm_up(c: Chain) -> Result<WarmUp, Refusal>
     ensures { result ≡ warm_up_of c }
 {
     let tasks = chain::flat(c);
@@ -113,17 +90,17 @@ pub fn warm_up(c: Chain) -> WarmUp
     warm_up_on(&tasks[..n], c.gap)
 }
 
-// The check of a tick that is asked for, where answers are known from tick `from` on: 12, 13, or 0 for no refusal.
-pub fn tick_refusal(t: Tick, from: Tick) -> u64
-    ensures { result ≡ tick_refusal t.0 from.0 }
+// The check of a tick that is asked for, where answers are known from tick `from` on: 12, 13.
+pub fn check_tick(t: Tick, from: Tick) -> Result<(), Refusal>
+    ensures { result ≡ tick_checked t.0 from.0 }
 {
     if t.0 < from.0 {
-        return 12;
+        return Err(Refusal::TICK_TOO_EARLY);
     }
     if 1000000000000 < t.0 {
-        return 13;
+        return Err(Refusal::TICK_TOO_LATE);
     }
-    0
+    Ok(())
 }
 
 // ---- delay
@@ -143,25 +120,18 @@ fn delay_ticks(tasks: &[u64], gap: u64, t: Tick) -> u64
 }
 
 // Walking of a flat list of tasks and a gap.
-pub fn delay_on(tasks: &[u64], gap: u64, t: Tick) -> Span
+#[tactic(auto, using(chain::proofs::CheckLaws::accepted_in, crate::proofs::Exits::span_refused, crate::proofs::Exits::span_tick, crate::proofs::Exits::in_range, crate::proofs::Exits::span_known))]
+pub fn delay_on(tasks: &[u64], gap: u64, t: Tick) -> Result<u64, Refusal>
     ensures { result ≡ delay_in gap (given_in tasks.now) t.0 }
 {
-    let v = chain::check_on(tasks, gap);
-    match v {
-        Verdict::Refused(r) => {
-            return Span::Refused(r);
-        }
-        Verdict::Accepted(_) => {}
-    }
-    let number = tick_refusal(t, warm_tick(tasks, gap));
-    if number != 0 {
-        return Span::Refused(Refusal { number, place: 0 });
-    }
-    Span::Ticks(delay_ticks(tasks, gap, t))
+    chain::check_on(tasks, gap)?;
+    check_tick(t, warm_tick(tasks, gap))?;
+    Ok(delay_ticks(tasks, gap, t))
 }
 
 // Document 01's walking: the delay of a press at tick t; refusals 8, 5, 7, 12, 13.
-pub fn delay(c: Chain, t: Tick) -> Span
+#[tactic(auto, using(chain::proofs::Filling::lent, crate::specs::Standing::delay_stands))]
+pub fn delay(c: Chain, t: Tick) -> Result<u64, Refusal>
     ensures { result ≡ delay_of c t.0 }
 {
     let tasks = chain::flat(c);
@@ -182,6 +152,7 @@ fn first_aged(tasks: &[u64], gap: u64) -> Tick
 }
 
 // The age at tick z of a list that passes 8 and 5.
+#[tactic(auto, using(chain::specs::Flat::in_last, crate::proofs::Whole::some_place, crate::proofs::Whole::last_inside, crate::proofs::Whole::last_place_small, crate::proofs::Whole::start_early, crate::proofs::Whole::age_is))]
 fn age_ticks(tasks: &[u64], gap: u64, z: Tick) -> u64
     requires { (Sound (tasks_in gap tasks.now)) × (first_aged (tasks_in gap tasks.now) ≤ z.0) × (z.0 ≤ 1000000000000) }
     ensures { result ≡ age_at (tasks_in gap tasks.now) z.0 }
@@ -196,25 +167,18 @@ fn age_ticks(tasks: &[u64], gap: u64, z: Tick) -> u64
 }
 
 // Ageing of a flat list of tasks and a gap.
-pub fn age_on(tasks: &[u64], gap: u64, z: Tick) -> Span
+#[tactic(auto, using(chain::proofs::CheckLaws::accepted_in, crate::proofs::Exits::span_refused, crate::proofs::Exits::span_tick, crate::proofs::Exits::in_range, crate::proofs::Exits::span_known))]
+pub fn age_on(tasks: &[u64], gap: u64, z: Tick) -> Result<u64, Refusal>
     ensures { result ≡ age_in gap (given_in tasks.now) z.0 }
 {
-    let v = chain::check_on(tasks, gap);
-    match v {
-        Verdict::Refused(r) => {
-            return Span::Refused(r);
-        }
-        Verdict::Accepted(_) => {}
-    }
-    let number = tick_refusal(z, first_aged(tasks, gap));
-    if number != 0 {
-        return Span::Refused(Refusal { number, place: 0 });
-    }
-    Span::Ticks(age_ticks(tasks, gap, z))
+    chain::check_on(tasks, gap)?;
+    check_tick(z, first_aged(tasks, gap))?;
+    Ok(age_ticks(tasks, gap, z))
 }
 
 // Document 01's ageing: the age at tick z; refusals 8, 5, 7, 12, 13.
-pub fn age(c: Chain, z: Tick) -> Span
+#[tactic(auto, using(chain::proofs::Filling::lent, crate::specs::Standing::age_stands))]
+pub fn age(c: Chain, z: Tick) -> Result<u64, Refusal>
     ensures { result ≡ age_of c z.0 }
 {
     let tasks = chain::flat(c);

@@ -1,4 +1,5 @@
--- What holds at each return of `judge` and `most_misses_on`, and what an accepted call has.
+-- What holds at each return of `most_misses_on`, and what an accepted call has.
+use Rattle.std.specs.Prelude.{Err, Ok, Result}
 use Prim.Native.Nat.{ℕ, ◌+◌, ◌-◌, ◌/◌, ◌≤◌, ◌<◌}
 use native.Mathlib.Omega.{arith}
 use native.Mathlib.Nat.{mul-le-mul_right}
@@ -6,47 +7,33 @@ use native.Mathlib.Decide.{dec_lt}
 use mathlib.Core.Path.{◌≡◌, ap, ◌∙◌}
 use mathlib.Core.List.{List}
 use lib.Dec.{eqb}
-use borrow.Author.Tests.{le-leb, lt-leb, eq-eqb, ne_eqb}
+use borrow.Author.Tests.{eq-eqb, ne_eqb}
 use Rattle.refusal.specs.declared.Refusal.{Refusal}
-use Rattle.refusal.specs.Refusals.{refusal}
 use Rattle.task.specs.declared.Task.{Task}
 use Rattle.task.specs.declared.Place.{Place}
 use Rattle.task.specs.declared.Job.{Job}
 use Rattle.task.specs.Jobs.{write_of}
-use Rattle.chain.specs.declared.Verdict.{Verdict}
-use Rattle.chain.specs.declared.Verdict.TheVariants as verdict
 use Rattle.chain.specs.Chains.{placed, at}
 use Rattle.chain.specs.Multiples.{hyper_times}
 use Rattle.chain.specs.Checks.{verdict_in, Sound}
 use Rattle.chain.proofs.CheckLaws.{FactsIn, accepted_in}
 use Rattle.timing.specs.WarmUp.{warm_at}
 use Rattle.timing.specs.WarmRanges.{warm_range}
-use Rattle.windows.specs.declared.Windows.TheVariants.{Most, Refused}
 use Rattle.ranges.specs.Largest.{largest}
 use Rattle.ranges.proofs.LargestLaws.{largest_top, reached}
 use Rattle.ranges.proofs.LeastLaws.{FirstOf, first_least}
-use Rattle.windows.specs.Windows.{misses, starts, window_of, most_misses, earliest_job, after_limits, windows_after, windows_in}
+use Rattle.windows.specs.Windows.{misses, starts, window_of, most_misses, earliest_job, after_limits, windows_after, windows_in, most_from}
 use Rattle.windows.specs.Scan.{Looked}
 use Rattle.windows.specs.Sliding.{at_most}
 use Rattle.windows.proofs.EveryWindow.{starts_pos}
 use Rattle.windows.proofs.Answered.{Passed, passed}
 use Rattle.windows.proofs.Ends.{number_small}
 
-module _ (h k : ℕ) where
-  pub judge_low : k < 1 → verdict.Refused (refusal 15 0) ≡ after_limits (verdict.Accepted h) k
-  judge_low l = rw (lt-leb 1 k l)
-
-  pub judge_high : 1 ≤ k → 100 < k → verdict.Refused (refusal 15 0) ≡ after_limits (verdict.Accepted h) k
-  judge_high l g = rw (le-leb 1 k l, lt-leb k 100 g)
-
-  pub judge_well : 1 ≤ k → k ≤ 100 → verdict.Accepted h ≡ after_limits (verdict.Accepted h) k
-  judge_well l g = rw (le-leb 1 k l, le-leb k 100 g)
-
 -- what the checks say of a gap and a list of tasks
-abbrev pub judged_in : ℕ → List Task → ℕ → Verdict
+abbrev pub judged_in : ℕ → List Task → ℕ → Result ℕ Refusal
 judged_in d t k = after_limits (verdict_in d t) k
 
-pub windows_refused : (d : ℕ) (t : List Task) (B k : ℕ) (r : Refusal) → judged_in d t k ≡ verdict.Refused r → Refused r ≡ windows_in d t B k
+pub windows_refused : (d : ℕ) (t : List Task) (B k : ℕ) (r : Refusal) → judged_in d t k ≡ Err r → Err r ≡ windows_in d t B k
 unfolding windows_after
 windows_refused d t B k r e = rw e
 
@@ -73,7 +60,7 @@ module _ (f : ℕ → ℕ) (from last n : ℕ) (range : from + n ≡ last + 1) (
 
 -- an accepted call, w being W1 and a the first task
 pub record Call (d : ℕ) (ts : List Task) (k h w : ℕ) (a : Place) : Type 0 where
-  pub accepted : judged_in d ts k ≡ verdict.Accepted h
+  pub accepted : judged_in d ts k ≡ Ok h
   pub warm : w ≡ warm_at (placed d ts) 0
   pub first : a ≡ at (placed d ts) 0
 
@@ -113,16 +100,16 @@ module _ (d : ℕ) (ts : List Task) (k h w : ℕ) (a : Place) (c : Call d ts k h
 
   module _ (B : ℕ) where
     -- a look for the largest number of misses ends at the earliest job that has it
-    first_most : (m : ℕ) (j : Job) (y : ℕ) → m ≡ most_misses l B k → Looked (window_of l B k) m (w + 1) (w + h / a.period) j.0 y → Most m j ≡ windows_in d ts B k
+    first_most : (m : ℕ) (j : Job) (y : ℕ) → m ≡ most_misses l B k → Looked (window_of l B k) m (w + 1) (w + h / a.period) j.0 y → most_from m j ≡ windows_in d ts B k
     unfolding windows_after most_misses earliest_job
     first_most m j y e u =
         let i : j.0 ≡ earliest_job l B k
         = first_least (λ s. eqb (window_of l B k s) (most_misses l B k)) (starts l) (warm_at l 0 + 1) j.0
         (first_seen (window_of l B k) _ _ (starts l) (omega arith) (starts_pos l f.sound) j.0 y (rw (c.warm, starts_are, e) at u)) in
-        rw c.accepted (ap (λ (v : ℕ). Most v j) e ∙ ap (λ (v : ℕ). Most (most_misses l B k) (record { 0 = v })) i)
+        rw c.accepted (ap (λ (v : ℕ). most_from v j) e ∙ ap (λ (v : ℕ). most_from (most_misses l B k) (record { 0 = v })) i)
 
     -- a window that has k misses
-    pub windows_full : (j : Job) (x : ℕ) → Looked (window_of l B k) k (w + 1) (w + h / a.period) j.0 x → j.0 ≤ w + h / a.period → Most k j ≡ windows_in d ts B k
+    pub windows_full : (j : Job) (x : ℕ) → Looked (window_of l B k) k (w + 1) (w + h / a.period) j.0 x → j.0 ≤ w + h / a.period → most_from k j ≡ windows_in d ts B k
     unfolding most_misses
     windows_full j x t u =
         first_most k j x
@@ -130,6 +117,6 @@ module _ (d : ℕ) (ts : List Task) (k h w : ℕ) (a : Place) (c : Call d ts k h
 
     -- no window has k, and one has m
     pub windows_most : (j : Job) (m x y : ℕ) → Looked (window_of l B k) k (w + 1) (w + h / a.period) x m → w + h / a.period < x → Looked (window_of l B k) m (w + 1) (w + h / a.period) j.0 y
-        → Most m j ≡ windows_in d ts B k
+        → most_from m j ≡ windows_in d ts B k
     unfolding most_misses
     windows_most j m x y s t u = first_most m j y (rw (← c.warm, ← starts_are) (all_seen (window_of l B k) _ _ (h / a.period) (omega arith) some_start x m k s t)) u

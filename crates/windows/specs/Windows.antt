@@ -1,13 +1,13 @@
 -- Document 01, "Windows of jobs", and order 2 of document 02: the jobs that miss, the largest number of misses in k successive jobs, the earliest job from which
 -- there are as many, and what the call answers.
-use Rattle.std.specs.Prelude.{ℕ, zero, suc, ◌+◌, ◌-◌, ◌/◌, Bool, true, false, cond, ◌&&◌, List, leb, ltb, eqb}
+use Rattle.std.specs.Prelude.{ℕ, zero, suc, ◌+◌, ◌-◌, ◌/◌, Bool, true, false, cond, ◌&&◌, List, leb, ltb, eqb, Err, Ok, Result}
+use Rattle.refusal.specs.declared.Refusal.{Refusal}
 use Rattle.refusal.specs.Refusals.{refusal}
 use Rattle.task.specs.declared.Task.{Task}
 use Rattle.task.specs.declared.Place.{Place}
+use Rattle.task.specs.declared.Job.{Job}
 use Rattle.task.specs.Jobs.{read_of, write_of}
 use Rattle.chain.specs.declared.Chain.{Chain}
-use Rattle.chain.specs.declared.Verdict.{Verdict}
-use Rattle.chain.specs.declared.Verdict.TheVariants as verdict
 use Rattle.chain.specs.Chains.{placed, tasks_of, at, last_place, walk}
 use Rattle.chain.specs.Hyperperiod.{hyper_of}
 use Rattle.chain.specs.Checks.{verdict_of, verdict_in}
@@ -15,7 +15,6 @@ use Rattle.timing.specs.WarmUp.{warm_at}
 use Rattle.ranges.specs.Largest.{largest}
 use Rattle.ranges.specs.Least.{least_from}
 use Rattle.windows.specs.declared.Windows.{Windows}
-use Rattle.windows.specs.declared.Windows.TheVariants.{Most, Refused}
 
 -- The forward end of job j of the first place, less its own read, which is never later (`walk_late` in timing/specs/WarmRanges).
 unfoldable pub span_of : List Place → ℕ → ℕ
@@ -54,19 +53,23 @@ unfoldable pub earliest_job : List Place → ℕ → ℕ → ℕ
 earliest_job l B k = least_from (λ s. eqb (window_of l B k s) (most_misses l B k)) (warm_at l 0 + 1) (starts l)
 
 -- After the chain's own checks, 8, 5 and 7: 15, k outside its limits, 1 to 100.
-abbrev pub after_limits : Verdict → ℕ → Verdict
-after_limits (verdict.Refused r) k = verdict.Refused r
-after_limits (verdict.Accepted h) k = cond (leb 1 k && leb k 100) (verdict.Accepted h) (verdict.Refused (refusal 15 0))
+abbrev pub after_limits : Result ℕ Refusal → ℕ → Result ℕ Refusal
+after_limits (Err r) k = Err r
+after_limits (Ok h) k = cond (leb 1 k && leb k 100) (Ok h) (Err (refusal 15 0))
+
+-- The two numbers that the call answers.
+abbrev pub most_from : ℕ → Job → Result Windows Refusal
+most_from m j = Ok (record { most = m; first = j })
 
 -- What the call answers, by what its checks say: 8, 5, 7 and 15, or the two numbers.
-unfoldable pub windows_after : List Place → ℕ → ℕ → Verdict → Windows
-windows_after l B k (verdict.Refused r) = Refused r
-windows_after l B k (verdict.Accepted h) = Most (most_misses l B k) (record { 0 = earliest_job l B k })
+unfoldable pub windows_after : List Place → ℕ → ℕ → Result ℕ Refusal → Result Windows Refusal
+windows_after l B k (Err r) = Err r
+windows_after l B k (Ok h) = most_from (most_misses l B k) (record { 0 = earliest_job l B k })
 
 -- The call on a chain: the chain's own checks, then 15, then the answer.
-abbrev pub windows_of : Chain → ℕ → ℕ → Windows
+abbrev pub windows_of : Chain → ℕ → ℕ → Result Windows Refusal
 windows_of c B k = windows_after (tasks_of c) B k (after_limits (verdict_of c) k)
 
 -- The same of a gap and a list of tasks, one for each place.
-abbrev pub windows_in : ℕ → List Task → ℕ → ℕ → Windows
+abbrev pub windows_in : ℕ → List Task → ℕ → ℕ → Result Windows Refusal
 windows_in g l B k = windows_after (placed g l) B k (after_limits (verdict_in g l) k)

@@ -1,6 +1,4 @@
-use lib.ListN.{length-map}
 use Rattle.agreement.proofs.Exits.{two_cuts}
-use borrow.Author.Rules.{rules}
 use Rattle.agreement.proofs.cuts_agree.Goals as goal
 
 pub returns : goal.returns

@@ -1,6 +1,4 @@
-use lib.ListN.{length-map}
 use Rattle.agreement.proofs.Exits.{bounded}
-use borrow.Author.Rules.{rules}
 use Rattle.agreement.proofs.greatest_not_exceeded.Goals as goal
 
 pub returns : goal.returns

@@ -1,6 +1,4 @@
-use lib.ListN.{length-map}
 use Rattle.agreement.proofs.Exits.{reached}
-use borrow.Author.Rules.{rules}
 use Rattle.agreement.proofs.greatest_reached.Goals as goal
 
 pub returns : goal.returns

@@ -1,6 +1,5 @@
 use native.Mathlib.Omega.{arith}
 use Rattle.agreement.proofs.Exits.{before_none, before_far, before_there}
-use borrow.Author.Rules.{rules}
 use Rattle.agreement.proofs.last_before.Goals as goal
 
 pub returns-then-latency-lt1 : goal.returns-then-latency-lt1

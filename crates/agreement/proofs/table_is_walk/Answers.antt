@@ -1,6 +1,4 @@
-use lib.ListN.{length-map}
 use Rattle.agreement.proofs.Exits.{both_delays}
-use borrow.Author.Rules.{rules}
 use Rattle.agreement.proofs.table_is_walk.Goals as goal
 
 pub returns : goal.returns

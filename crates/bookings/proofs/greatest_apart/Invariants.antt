@@ -1,11 +1,9 @@
-use native.Mathlib.Omega.{arith}
 use Prim.Native.Nat.{◌-◌, ◌≤◌, max}
 use mathlib.Core.Path.{◌≡◌}
 use Rattle.chain.specs.Flat.{tasks_in}
 use Rattle.ranges.specs.Largest.{largest}
 use Rattle.bookings.specs.Bookings.{apart_at}
 use Rattle.bookings.specs.Stretches.{stretch_at}
-use Rattle.bookings.proofs.Turns.{next_late, next_soon, next_first, next_second, next_left, none_left, all_left}
 use Rattle.bookings.proofs.greatest_apart.Given as goal
 
 -- a and b are the stretches at t, and the largest of all is that of what is found and what is left

@@ -2,12 +2,10 @@ use native.Mathlib.Omega.{arith}
 use mathlib.Core.Path.{◌≡◌, ap, ◌∙◌}
 use Prim.Native.Nat.{◌-◌, ◌/◌}
 use lib.ListN.{length}
-use Rattle.task.specs.declared.Place.{Place}
 use Rattle.chain.specs.Chains.{backward_by, job_of}
 use Rattle.chain.specs.Flat.{tasks_in, in_last}
-use Rattle.timing.proofs.Whole.{some_place, last_inside, last_place_small, press_small, end_small}
+use Rattle.timing.proofs.Whole.{last_inside, press_small, end_small}
 use Rattle.bookings.proofs.Whole.{back_small, until_small, stretch_is}
-use borrow.Author.Rules.{rules}
 use Rattle.bookings.proofs.stretch_at.Goals as goal
 use Rattle.bookings.proofs.stretch_at.Goals.{After-job_of-j}
 
@@ -15,23 +13,11 @@ use Rattle.bookings.proofs.stretch_at.Goals.{After-job_of-j}
 home : (c : After-job_of-j) → c.job_of-j.result.0 ≡ job_of (backward_by (tasks_in c.args.gap c.args.tasks.now) 0 (length c.args.tasks.now / 3 - 1 - 0) c.forward_on-k.result.0)
 home c = c.job_of-j.ensures ∙ ap job_of c.backward_on.ensures
 
-pub overflow_sub-n : goal.overflow_sub-n
-overflow_sub-n c = some_place _ _ c.requires.0
-
-pub earliest_after-i-requires : goal.earliest_after-i-requires
-earliest_after-i-requires c =
-    let s = c.before in
-    let k = s.requires.0 in
-    (omega (arith, ap (λ (x : Place). x.period) c.task_at-first.ensures, (k.each 0 k.some).period_pos), omega (arith, s.requires.1))
-
 pub forward_on-k-requires : goal.forward_on-k-requires
 forward_on-k-requires c =
     let s = c.before in
     let k = s.requires.0 in
     (k, omega arith, last_inside _ _ k, press_small _ k _ s.requires.1 _ c.task_at-first.ensures _ c.earliest_after-i.ensures)
-
-pub task_at-last-requires : goal.task_at-last-requires
-task_at-last-requires c = let k = c.requires.0 in (last_inside _ _ k, last_place_small _ _ k)
 
 pub write-booking-requires : goal.write-booking-requires
 write-booking-requires c =

@@ -4,12 +4,12 @@ use Rattle.capi_bookings.proofs.mo_bookings.Goals as goal
 
 pub code-requires : goal.code-requires
 code-requires c =
-    code_fits _ _ _ _ _ _ c.schedule_from-s.ensures c.pair_of-b.ensures _ c.in-Refused.is
+    code_fits _ _ _ _ _ _ c.schedule_from-s.ensures c.pair_of-b.ensures _ c.in-Err.is
 
-pub returns-in-Both : goal.returns-in-Both
-returns-in-Both c =
-    gives_both _ _ _ _ _ _ c.schedule_from-s.ensures c.pair_of-b.ensures _ _ _ _ c.in-Both.is
+pub returns-in-Ok : goal.returns-in-Ok
+returns-in-Ok c =
+    gives_both _ _ _ _ _ _ c.schedule_from-s.ensures c.pair_of-b.ensures _ _ _ _ c.in-Ok.is
 
-pub returns-in-Refused : goal.returns-in-Refused
-returns-in-Refused c =
-    refuses _ _ _ _ _ _ c.schedule_from-s.ensures c.pair_of-b.ensures _ _ c.in-Refused.is c.code.ensures
+pub returns-in-Err : goal.returns-in-Err
+returns-in-Err c =
+    refuses _ _ _ _ _ _ c.schedule_from-s.ensures c.pair_of-b.ensures _ _ c.in-Err.is c.code.ensures

@@ -1,18 +1,13 @@
 use mathlib.Core.Path.{ap, ◌∙◌}
-use borrow.Author.Rules.{rules}
-use Rattle.refusal.specs.Refusals.{code_of}
-use Rattle.chain.specs.Flat.{flat_chain}
-use Rattle.load.specs.declared.Load.{Load}
 use Rattle.load.proofs.Passes.{small_refusal}
+use Rattle.capi_load.specs.Calls.{load_code, load_numbers}
 use Rattle.capi_load.proofs.mo_load.Goals as goal
 
 pub code-requires : goal.code-requires
-code-requires c = let m = c.make_load-m in small_refusal _ _ m.result m.ensures
+code-requires c = small_refusal _ _ _ c.in-Err.ensures
 
-pub returns : goal.returns
-returns c =
-    let m = c.make_load-m in
-    record {
-      answers = c.code.ensures ∙ ap (λ (x : Load). code_of x.refusal) m.ensures;
-      gives_tasks = c.flat-list.ensures ∙ ap (λ (x : Load). flat_chain x.chain.tasks) m.ensures;
-    }
+pub returns-in-Ok : goal.returns-in-Ok
+returns-in-Ok c = record { answers = ap load_code c.in-Ok.ensures; gives_tasks = c.flat.ensures ∙ ap load_numbers c.in-Ok.ensures }
+
+pub returns-in-Err : goal.returns-in-Err
+returns-in-Err c = record { answers = c.code.ensures ∙ ap load_code c.in-Err.ensures; gives_tasks = ap load_numbers c.in-Err.ensures }

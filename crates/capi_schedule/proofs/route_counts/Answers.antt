@@ -1,15 +1,10 @@
-use Prim.Native.Nat.{◌-◌}
-use mathlib.Core.Path.{refl}
+use Rattle.std.proofs.Common.{sym, arith}
+use Rattle.ranges.specs.Entries.{entries_are}
+use Rattle.schedule.specs.Schedules.{no_route}
 use Rattle.capi_schedule.specs.FlatSchedule.{count_in}
-use Rattle.capi_schedule.proofs.Flat.{Filled, fill_start, fill_more, fill_end}
-use borrow.Author.Rules.{rules}
 use Rattle.capi_schedule.proofs.route_counts.Goals as goal
 
-pub loop-i-init : goal.loop-i-init
-loop-i-init c = fill_start (count_in c.args.routes) 4 0
-
-pub loop-i-preserved : goal.loop-i-preserved
-loop-i-preserved c = fill_more (count_in c.args.routes) 4 0 c.loop-i.i c.loop-i.counts _ c.loop-i-test.true c.loop-i.invariant refl
-
 pub returns : goal.returns
-returns c = fill_end (count_in c.args.routes) 4 0 c.loop-i.i c.loop-i.counts c.loop-i-test.false c.loop-i.invariant
+returns c =
+    let items = c.map.ensures.items in
+    sym (entries_are (count_in c.args.routes) 0 c.map.result 4 items.long (λ i h. grind (arith, items.at i no_route 0 h)))

@@ -5,7 +5,6 @@ use Rattle.capi_chain.specs.FlatChain.{chain_from}
 use Rattle.capi_chain.proofs.Given.{Given, given}
 use Rattle.capi_timing.specs.Calls.{span_code, span_ticks}
 use Rattle.capi_timing.proofs.Small.{answer_small}
-use borrow.Author.Rules.{rules}
 use Rattle.capi_timing.proofs.mo_age.Goals as goal
 use Rattle.capi_timing.proofs.mo_age.Goals.{After-age_on, After-flat_length-n}
 

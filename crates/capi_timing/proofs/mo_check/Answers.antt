@@ -4,7 +4,6 @@ use Rattle.capi_chain.specs.FlatChain.{chain_from}
 use Rattle.capi_chain.proofs.Given.{Given, given}
 use Rattle.capi_timing.specs.Calls.{verdict_code, verdict_hyper}
 use Rattle.capi_timing.proofs.Small.{verdict_fits}
-use borrow.Author.Rules.{rules}
 use Rattle.capi_timing.proofs.mo_check.Goals as goal
 use Rattle.capi_timing.proofs.mo_check.Goals.{After-check_on-v, After-flat_length-n}
 
@@ -18,14 +17,14 @@ pub slice_bounds-check_on-end : goal.slice_bounds-check_on-end
 slice_bounds-check_on-end c = (front c).long
 
 pub code-requires : goal.code-requires
-code-requires c = verdict_fits _ _ _ (answer (goal.at.code-requires c).After-check_on-v) c.in-Refused.is
+code-requires c = verdict_fits _ _ _ (answer (goal.at.code-requires c).After-check_on-v) c.in-Err.is
 
-pub returns-in-Accepted : goal.returns-in-Accepted
-returns-in-Accepted c =
-    let e = sym c.in-Accepted.is ∙ answer (goal.at.returns-in-Accepted c).After-check_on-v in
+pub returns-in-Ok : goal.returns-in-Ok
+returns-in-Ok c =
+    let e = sym c.in-Ok.is ∙ answer (goal.at.returns-in-Ok c).After-check_on-v in
     (ap verdict_code e, ap verdict_hyper e)
 
-pub returns-in-Refused : goal.returns-in-Refused
-returns-in-Refused c =
-    let e = sym c.in-Refused.is ∙ answer (goal.at.returns-in-Refused c).After-check_on-v in
+pub returns-in-Err : goal.returns-in-Err
+returns-in-Err c =
+    let e = sym c.in-Err.is ∙ answer (goal.at.returns-in-Err c).After-check_on-v in
     (c.code.ensures ∙ ap verdict_code e, ap verdict_hyper e)

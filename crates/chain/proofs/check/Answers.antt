@@ -1,7 +1,5 @@
 use mathlib.Core.Path.{◌∙◌}
-use lib.ListN.{length-map}
 use Rattle.chain.proofs.Filling.{Lent, lent}
-use borrow.Author.Rules.{rules}
 use Rattle.chain.proofs.check.Goals as goal
 use Rattle.chain.proofs.check.Goals.{After-flat_length-n}
 

@@ -1,23 +1,13 @@
 use native.Mathlib.Omega.{arith}
-use Prim.Native.Nat.{ℕ, ◌+◌, ◌-◌, ◌≤◌}
-use mathlib.Core.Path.{◌≡◌, ap, ◌∙◌}
+use Prim.Native.Nat.{◌+◌}
+use mathlib.Core.Path.{ap, ◌∙◌}
 use Rattle.task.specs.declared.Place.{Place}
-use Rattle.chain.specs.Chains.{at, forward_by}
 use Rattle.chain.specs.Flat.{tasks_in}
 use Rattle.chain.proofs.Steps.{forward_none, forward_small, forward_step}
 use Rattle.chain.proofs.forward_on.Goals as goal
 
-pub task_at-a-requires : goal.task_at-a-requires
-task_at-a-requires c = let s = c.before in (omega (arith, s.requires.1, s.requires.2), omega (arith, s.requires.1, s.requires.2, s.requires.0.few))
-
 pub loop-i-init : goal.loop-i-init
-loop-i-init c = (omega arith, c.requires.1, c.task_at-a.ensures, forward_none _ _ _)
-
-pub overflow_add-i : goal.overflow_add-i
-overflow_add-i c = let s = c.before in omega (arith, s.requires.2, s.requires.0.few)
-
-pub task_at-b-requires : goal.task_at-b-requires
-task_at-b-requires c = let s = c.before in (omega (arith, s.requires.2), omega (arith, s.requires.2, s.requires.0.few))
+loop-i-init c = (c.task_at-a.ensures, forward_none _ _ _)
 
 pub forward_to-k-requires : goal.forward_to-k-requires
 forward_to-k-requires c =
@@ -25,7 +15,7 @@ forward_to-k-requires c =
     let l = c.loop-i in
     let t = tasks_in s.args.gap s.args.tasks.now in (
       omega (arith, ap (λ (x : Place). x.period) c.task_at-b.ensures, (s.requires.0.each (l.i + 1) (omega (arith, s.requires.2))).period_pos),
-      forward_small t s.args.p l.i s.args.j.0 l.k.0 l.a l.invariant.0 l.invariant.2 l.invariant.3 s.requires.0 (omega (arith, s.requires.2)) s.requires.3,
+      forward_small t s.args.p l.i s.args.j.0 l.k.0 l.a (omega arith) l.invariant.0 l.invariant.1 s.requires.0 (omega (arith, s.requires.2)) s.requires.3,
     )
 
 pub loop-i-preserved : goal.loop-i-preserved
@@ -33,15 +23,6 @@ loop-i-preserved c =
     let s = c.before in
     let l = c.loop-i in
     let t = tasks_in s.args.gap s.args.tasks.now in (
-      omega arith,
-      omega arith,
       c.task_at-b.ensures,
-      c.forward_to-k.ensures ∙ forward_step t s.args.p l.i s.args.j.0 l.k.0 l.a l.invariant.0 l.invariant.2 l.invariant.3 _ c.task_at-b.ensures,
+      c.forward_to-k.ensures ∙ forward_step t s.args.p l.i s.args.j.0 l.k.0 l.a (omega arith) l.invariant.0 l.invariant.1 _ c.task_at-b.ensures,
     )
-
-pub returns : goal.returns
-returns c =
-    let l = c.loop-i in
-    let a = c.args in
-    let e : l.i ≡ a.q = omega arith in
-    l.invariant.3 ∙ ap (λ (x : ℕ). forward_by (tasks_in a.gap a.tasks.now) a.p (x - a.p) a.j.0) e

@@ -1,7 +1,6 @@
 use native.Mathlib.Omega.{arith}
 use mathlib.Core.Path.{sym}
 use Rattle.chain.specs.Flat.{in_long, given_at}
-use borrow.Author.Rules.{rules}
 use Rattle.chain.proofs.given_at.Goals as goal
 
 pub bounds-tasks-k : goal.bounds-tasks-k

@@ -1,6 +1,5 @@
 use native.Mathlib.Omega.{arith}
 use mathlib.Core.Path.{sym}
-use borrow.Author.Rules.{rules}
 use Rattle.chain.proofs.CheckLaws.{hyper_accepted, hyper_above}
 use Rattle.chain.proofs.hyper_verdict.Goals as goal
 

@@ -1,8 +1,7 @@
 use native.Mathlib.Omega.{arith}
-use native.Mathlib.Nat.{mul-le-mul}
-use Prim.Native.Nat.{ℕ, ◌+◌, ◌-◌, ◌≤◌}
+use Prim.Native.Nat.{ℕ, ◌+◌}
 use mathlib.Core.Path.{◌≡◌, refl, sym, ap, ◌∙◌}
-use lib.ListN.{length, drop}
+use lib.ListN.{drop}
 use Rattle.euclid.specs.Divisor.{lcm_of}
 use Rattle.euclid.proofs.LeastMultiple.{lcm_ge}
 use Rattle.task.specs.declared.Place.{Place}
@@ -25,16 +24,10 @@ next : (c : After-task_at-a) → hyper_of (tasks_in c.args.gap c.args.tasks.now)
 next c =
     let l = c.loop-i in
     let t = tasks_in c.args.gap c.args.tasks.now in
-    l.invariant.4 ∙ ap (hyper_from l.h) (rest_cons t l.i zero_place (omega (arith, l.invariant.0))) ∙ hyper_cons _ _ _ ∙ ap (λ (x : Place). hyper_from (lcm_of l.h x.period) (drop (l.i + 1) t)) (sym c.task_at-a.ensures)
+    l.invariant.3 ∙ ap (hyper_from l.h) (rest_cons t l.i zero_place (omega (arith, l.invariant.0))) ∙ hyper_cons _ _ _ ∙ ap (λ (x : Place). hyper_from (lcm_of l.h x.period) (drop (l.i + 1) t)) (sym c.task_at-a.ensures)
 
 pub loop-i-init : goal.loop-i-init
-loop-i-init c = (in_count c.args.gap c.args.tasks.now, omega arith, omega arith, omega arith, refl)
-
-pub task_at-a-requires : goal.task_at-a-requires
-task_at-a-requires c = let l = c.loop-i in (omega (arith, l.invariant.0), omega (arith, l.invariant.0, c.requires.few))
-
-pub lcm-h-requires : goal.lcm-h-requires
-lcm-h-requires c = let l = c.loop-i in (l.invariant.2, omega (arith, mul-le-mul l.invariant.3 (within c).period_max))
+loop-i-init c = (in_count c.args.gap c.args.tasks.now, omega arith, omega arith, refl)
 
 pub returns-then-h-gt60000000 : goal.returns-then-h-gt60000000
 returns-then-h-gt60000000 c =
@@ -46,17 +39,13 @@ returns-then-h-gt60000000 c =
       above = λ more. omega (arith, next (goal.at.returns-then-h-gt60000000 c).After-task_at-a, c.lcm-h.ensures, from_ge (drop (l.i + 1) t) (lcm_of l.h a.task_at-a.result.period) (rest_periods _ c.requires (l.i + 1)));
     }
 
-pub overflow_add-i : goal.overflow_add-i
-overflow_add-i c = omega (arith, c.loop-i.invariant.0, c.requires.few)
-
 pub loop-i-preserved : goal.loop-i-preserved
 loop-i-preserved c =
     let a = c.before in
     let l = c.loop-i in
     let t = tasks_in c.args.gap c.args.tasks.now in (
       l.invariant.0,
-      omega arith,
-      omega (arith, l.invariant.2, c.lcm-h.ensures, lcm_ge l.h a.task_at-a.result.period (within (goal.at.loop-i-preserved c).After-task_at-a).period_pos),
+      omega (arith, l.invariant.1, c.lcm-h.ensures, lcm_ge l.h a.task_at-a.result.period (within (goal.at.loop-i-preserved c).After-task_at-a).period_pos),
       c.if-h-gt60000000.false,
       next (goal.at.loop-i-preserved c).After-task_at-a ∙ ap (λ (h : ℕ). hyper_from h (drop (l.i + 1) t)) (sym c.lcm-h.ensures),
     )
@@ -65,6 +54,6 @@ pub returns : goal.returns
 returns c =
     let l = c.loop-i in
     record {
-      within = λ few. sym (l.invariant.4 ∙ ap (hyper_from l.h) (rest_end (tasks_in c.args.gap c.args.tasks.now) l.i (omega (arith, l.invariant.0))) ∙ hyper_nil _);
-      above = λ more. absurd (omega (arith, l.invariant.3));
+      within = λ few. sym (l.invariant.3 ∙ ap (hyper_from l.h) (rest_end (tasks_in c.args.gap c.args.tasks.now) l.i (omega (arith, l.invariant.0))) ∙ hyper_nil _);
+      above = λ more. absurd (omega (arith, l.invariant.2));
     }

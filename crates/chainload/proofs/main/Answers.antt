@@ -1,22 +1,16 @@
 -- Every answer fits its bytes.
-use native.Mathlib.Omega.{arith}
+use Rattle.std.specs.Prelude.{◌≡◌, ℕ, List, Ok, Err, Result}
 use mathlib.Core.Path.{sym, subst}
-use lib.Seq.{length-take-le}
-use Rattle.load_file.specs.EveryWord.{Fits, answer_fits}
+use Rattle.load_file.specs.declared.Text.{Text}
+use Rattle.load_file.specs.Answers.{answer_to}
+use Rattle.load_file.specs.EveryWord.{text_in, Fits, answer_fits}
 use Rattle.chainload.proofs.main.Goals as goal
-use Rattle.chainload.proofs.main.Goals.{After-answer_to-a}
 
-fits : (c : After-answer_to-a) → Fits c.answer_to-a.result
-fits c = subst Fits (sym c.answer_to-a.ensures) (answer_fits _ _ _)
+fits : (a : Result Text Text) (count : ℕ) (seed places : List ℕ) → a ≡ answer_to count seed places → Fits (text_in a)
+fits a count seed places e = subst (λ (x : Result Text Text). Fits (text_in x)) (sym e) (answer_fits count seed places)
 
-pub slice_bounds-bytes-end : goal.slice_bounds-bytes-end
-slice_bounds-bytes-end c = let f = fits (goal.at.slice_bounds-bytes-end c).After-answer_to-a in omega (arith, f.short, f.whole)
+pub shared_ref_as_front-write_all : goal.shared_ref_as_front-write_all
+shared_ref_as_front-write_all c = (fits (Ok c.in-Ok.file) _ _ _ c.in-Ok.ensures).short
 
-pub slice_bounds-bytes-end-2 : goal.slice_bounds-bytes-end-2
-slice_bounds-bytes-end-2 c = let f = fits (goal.at.slice_bounds-bytes-end-2 c).After-answer_to-a in omega (arith, f.short, f.whole)
-
-pub slice_bounds-write_all-end : goal.slice_bounds-write_all-end
-slice_bounds-write_all-end c = let f = fits (goal.at.slice_bounds-write_all-end c).After-answer_to-a in sym (length-take-le _ _ (omega (arith, f.short, f.whole)))
-
-pub slice_bounds-write_all-end-2 : goal.slice_bounds-write_all-end-2
-slice_bounds-write_all-end-2 c = let f = fits (goal.at.slice_bounds-write_all-end-2 c).After-answer_to-a in sym (length-take-le _ _ (omega (arith, f.short, f.whole)))
+pub shared_ref_as_front-write_all-in-Err : goal.shared_ref_as_front-write_all-in-Err
+shared_ref_as_front-write_all-in-Err c = (fits (Err c.in-Err.line) _ _ _ c.in-Err.ensures).short

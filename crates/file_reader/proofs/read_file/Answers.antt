@@ -7,37 +7,39 @@ use native.Mathlib.Omega.{arith}
 use Prim.Native.Nat.{ℕ, ◌+◌, ◌-◌, ◌*◌, ◌≤◌, ◌<◌}
 use mathlib.Core.Path.{◌≡◌, sym, ap, ◌∙◌}
 use lib.ListN.{length}
-use Rattle.file_reader.proofs.Going.{Going, going_start, going_long, task_inside, chain_inside, gap_inside, going_task, going_chain, going_gap, going_fault, going_after, going_end, going_stop}
+use Rattle.schedule.proofs.Zeros.{numbered_zeros, route_zeros}
+use Rattle.file_reader.proofs.Going.{going_start, going_long, task_inside, chain_inside, gap_inside, going_task, going_chain, going_gap, going_fault, going_after, going_end, going_stop}
 use borrow.Author.Rules.{rules}
 use Rattle.file_reader.proofs.read_file.Goals as goal
-use Rattle.file_reader.proofs.read_file.Goals.{After-record_of-r, In-Chain, In-Gap, In-Task}
+use Rattle.file_reader.proofs.read_file.Goals.{After-record_of, In-Ok-Chain, In-Ok-Gap, In-Ok-Task}
 
 rest-is : (l : List ℕ) (at : ℕ) → take (length l - at) (drop at l) ≡ drop at l
 rest-is l at = take_all (length l - at) (drop at l) (simp length-drop (omega arith))
 
 -- what was judged are the bytes from here on
-judged : (c : After-record_of-r) → c.record_of-r.result ≡ record_of (take c.loop-at.count c.loop-at.numbers) c.loop-at.chains c.loop-at.gap (drop c.loop-at.at c.args.bytes.now)
-judged c = c.record_of-r.ensures ∙ ap (record_of (take c.loop-at.count c.loop-at.numbers) c.loop-at.chains c.loop-at.gap) (rest-is c.args.bytes.now c.loop-at.at)
+judged : (c : After-record_of) → c.record_of.result ≡ record_of (take c.loop-at.count c.loop-at.numbers) c.loop-at.chains c.loop-at.gap (drop c.loop-at.at c.args.bytes.now)
+judged c = c.record_of.ensures ∙ ap (record_of (take c.loop-at.count c.loop-at.numbers) c.loop-at.chains c.loop-at.gap) (rest-is c.args.bytes.now c.loop-at.at)
 
 -- a task fits its array and a record the file
-task-room : (c : In-Task) → (c.loop-at.at + 18 ≤ length c.args.bytes.now) × (c.loop-at.count < 32)
-task-room c = task_inside _ _ _ _ _ _ _ _ c.loop-at.invariant c.loop-at-test.true c.in-Task.t (sym c.in-Task.is ∙ (c.record_of-r.ensures ∙ ap (record_of (take c.loop-at.count c.loop-at.numbers) c.loop-at.chains c.loop-at.gap) (rest-is c.args.bytes.now c.loop-at.at)))
+task-room : (c : In-Ok-Task) → (c.loop-at.at + 18 ≤ length c.args.bytes.now) × (c.loop-at.count < 32)
+task-room c = task_inside _ _ _ _ _ _ _ _ c.loop-at.invariant c.loop-at-test.true c.in-Ok-Task.t (sym (rw c.in-Ok-Task.field-0-is at c.in-Ok-Task.is) ∙ (c.record_of.ensures ∙ ap (record_of (take c.loop-at.count c.loop-at.numbers) c.loop-at.chains c.loop-at.gap) (rest-is c.args.bytes.now c.loop-at.at)))
 
-chain-room : (c : In-Chain)
-    → (4 + 2 * c.in-Chain.p ≤ length (drop c.loop-at.at c.args.bytes.now)) × (c.in-Chain.p ≤ 12) × (c.loop-at.at + (4 + 2 * c.in-Chain.p) ≤ length c.args.bytes.now) × (c.loop-at.chains < 4)
-chain-room c = chain_inside _ _ _ _ _ _ _ _ c.loop-at.invariant c.loop-at-test.true c.in-Chain.p (sym c.in-Chain.is ∙ (c.record_of-r.ensures ∙ ap (record_of (take c.loop-at.count c.loop-at.numbers) c.loop-at.chains c.loop-at.gap) (rest-is c.args.bytes.now c.loop-at.at)))
+chain-room : (c : In-Ok-Chain)
+    → (4 + 2 * c.in-Ok-Chain.p ≤ length (drop c.loop-at.at c.args.bytes.now)) × (c.in-Ok-Chain.p ≤ 12) × (c.loop-at.at + (4 + 2 * c.in-Ok-Chain.p) ≤ length c.args.bytes.now) × (c.loop-at.chains < 4)
+chain-room c = chain_inside _ _ _ _ _ _ _ _ c.loop-at.invariant c.loop-at-test.true c.in-Ok-Chain.p (sym (rw c.in-Ok-Chain.field-0-is at c.in-Ok-Chain.is) ∙ (c.record_of.ensures ∙ ap (record_of (take c.loop-at.count c.loop-at.numbers) c.loop-at.chains c.loop-at.gap) (rest-is c.args.bytes.now c.loop-at.at)))
 
-gap-room : (c : In-Gap) → c.loop-at.at + 6 ≤ length c.args.bytes.now
-gap-room c = gap_inside _ _ _ _ _ _ _ _ c.loop-at.invariant c.loop-at-test.true c.in-Gap.g (sym c.in-Gap.is ∙ (c.record_of-r.ensures ∙ ap (record_of (take c.loop-at.count c.loop-at.numbers) c.loop-at.chains c.loop-at.gap) (rest-is c.args.bytes.now c.loop-at.at)))
+gap-room : (c : In-Ok-Gap) → c.loop-at.at + 6 ≤ length c.args.bytes.now
+gap-room c = gap_inside _ _ _ _ _ _ _ _ c.loop-at.invariant c.loop-at-test.true c.in-Ok-Gap.g (sym (rw c.in-Ok-Gap.field-0-is at c.in-Ok-Gap.is) ∙ (c.record_of.ensures ∙ ap (record_of (take c.loop-at.count c.loop-at.numbers) c.loop-at.chains c.loop-at.gap) (rest-is c.args.bytes.now c.loop-at.at)))
 
 pub loop-at-init : goal.loop-at-init
-loop-at-init c = going_start _
+loop-at-init c =
+    rw (numbered_zeros c.default-tasks.result c.default-tasks.ensures, route_zeros c.default-routes.result c.default-routes.ensures) (going_start c.args.bytes.now)
 
 pub slice_bounds-record_of-end : goal.slice_bounds-record_of-end
 slice_bounds-record_of-end c = let e = going_long _ _ _ _ _ _ _ _ c.loop-at.invariant in search rules
 
-pub record_of-r-requires : goal.record_of-r-requires
-record_of-r-requires c = omega (arith, going_long _ _ _ _ _ _ _ _ c.loop-at.invariant, c.loop-at.invariant.few)
+pub record_of-requires : goal.record_of-requires
+record_of-requires c = omega (arith, going_long _ _ _ _ _ _ _ _ c.loop-at.invariant, c.loop-at.invariant.few)
 
 pub offset_bounds-numbers-count : goal.offset_bounds-numbers-count
 offset_bounds-numbers-count c = omega (arith, (task-room c).1)
@@ -57,11 +59,11 @@ overflow_add-count c = omega (arith, (task-room c).1)
 pub overflow_add-at : goal.overflow_add-at
 overflow_add-at c = let i = (task-room c).0 in search rules
 
-pub loop-at-smaller-in-Task : goal.loop-at-smaller-in-Task
-loop-at-smaller-in-Task c = omega (arith, (task-room c).0)
+pub loop-at-smaller-in-Ok-Task : goal.loop-at-smaller-in-Ok-Task
+loop-at-smaller-in-Ok-Task c = omega (arith, (task-room c).0)
 
-pub loop-at-preserved-in-Task : goal.loop-at-preserved-in-Task
-loop-at-preserved-in-Task c = going_task _ _ _ _ _ _ _ _ c.loop-at.invariant c.loop-at-test.true c.in-Task.t (sym c.in-Task.is ∙ judged (goal.at.loop-at-preserved-in-Task c).After-record_of-r)
+pub loop-at-preserved-in-Ok-Task : goal.loop-at-preserved-in-Ok-Task
+loop-at-preserved-in-Ok-Task c = going_task _ _ _ _ _ _ _ _ c.loop-at.invariant c.loop-at-test.true c.in-Ok-Task.t (sym (rw c.in-Ok-Task.field-0-is at c.in-Ok-Task.is) ∙ judged (goal.at.loop-at-preserved-in-Ok-Task c).After-record_of)
 
 pub route_of-c-requires : goal.route_of-c-requires
 route_of-c-requires c =
@@ -69,51 +71,52 @@ route_of-c-requires c =
     (i.1, rw (rest-is c.args.bytes.now c.loop-at.at) i.0)
 
 pub offset_bounds-routes-chains : goal.offset_bounds-routes-chains
-offset_bounds-routes-chains c = omega (arith, (chain-room (goal.at.offset_bounds-routes-chains c).In-Chain).3)
+offset_bounds-routes-chains c = omega (arith, (chain-room (goal.at.offset_bounds-routes-chains c).In-Ok-Chain).3)
 
 pub bounds-routes-chains : goal.bounds-routes-chains
-bounds-routes-chains c = (chain-room (goal.at.bounds-routes-chains c).In-Chain).3
+bounds-routes-chains c = (chain-room (goal.at.bounds-routes-chains c).In-Ok-Chain).3
 
 pub overflow_add-chains : goal.overflow_add-chains
-overflow_add-chains c = omega (arith, (chain-room (goal.at.overflow_add-chains c).In-Chain).3)
+overflow_add-chains c = omega (arith, (chain-room (goal.at.overflow_add-chains c).In-Ok-Chain).3)
 
 pub overflow_mul-at : goal.overflow_mul-at
-overflow_mul-at c = omega (arith, (chain-room (goal.at.overflow_mul-at c).In-Chain).1)
+overflow_mul-at c = omega (arith, (chain-room (goal.at.overflow_mul-at c).In-Ok-Chain).1)
 
-pub overflow_add-at-in-Chain : goal.overflow_add-at-in-Chain
-overflow_add-at-in-Chain c = omega (arith, (chain-room (goal.at.overflow_add-at-in-Chain c).In-Chain).1)
+pub overflow_add-at-in-Ok-Chain : goal.overflow_add-at-in-Ok-Chain
+overflow_add-at-in-Ok-Chain c = omega (arith, (chain-room (goal.at.overflow_add-at-in-Ok-Chain c).In-Ok-Chain).1)
 
-pub overflow_add-at-in-Chain-2 : goal.overflow_add-at-in-Chain-2
-overflow_add-at-in-Chain-2 c = let i = (chain-room (goal.at.overflow_add-at-in-Chain-2 c).In-Chain).2 in search rules
+pub overflow_add-at-in-Ok-Chain-2 : goal.overflow_add-at-in-Ok-Chain-2
+overflow_add-at-in-Ok-Chain-2 c = let i = (chain-room (goal.at.overflow_add-at-in-Ok-Chain-2 c).In-Ok-Chain).2 in search rules
 
-pub loop-at-smaller-in-Chain : goal.loop-at-smaller-in-Chain
-loop-at-smaller-in-Chain c = omega (arith, (chain-room (goal.at.loop-at-smaller-in-Chain c).In-Chain).2)
+pub loop-at-smaller-in-Ok-Chain : goal.loop-at-smaller-in-Ok-Chain
+loop-at-smaller-in-Ok-Chain c = omega (arith, (chain-room (goal.at.loop-at-smaller-in-Ok-Chain c).In-Ok-Chain).2)
 
-pub loop-at-preserved-in-Chain : goal.loop-at-preserved-in-Chain
-loop-at-preserved-in-Chain c =
-    let e = c.route_of-c.ensures ∙ ap (λ (l : List ℕ). route_of (chain_field l c.in-Chain.p)) (rest-is c.args.bytes.now c.loop-at.at) in
-    rw e (going_chain _ _ _ _ _ _ _ _ c.loop-at.invariant c.loop-at-test.true c.in-Chain.p (sym c.in-Chain.is ∙ judged (goal.at.loop-at-preserved-in-Chain c).After-record_of-r))
+pub loop-at-preserved-in-Ok-Chain : goal.loop-at-preserved-in-Ok-Chain
+loop-at-preserved-in-Ok-Chain c =
+    let e = c.route_of-c.ensures ∙ ap (λ (l : List ℕ). route_of (chain_field l c.in-Ok-Chain.p)) (rest-is c.args.bytes.now c.loop-at.at) in
+    rw e (going_chain _ _ _ _ _ _ _ _ c.loop-at.invariant c.loop-at-test.true c.in-Ok-Chain.p (sym (rw c.in-Ok-Chain.field-0-is at c.in-Ok-Chain.is) ∙ judged (goal.at.loop-at-preserved-in-Ok-Chain c).After-record_of))
 
-pub overflow_add-at-in-Gap : goal.overflow_add-at-in-Gap
-overflow_add-at-in-Gap c = let i = gap-room c in search rules
+pub overflow_add-at-in-Ok-Gap : goal.overflow_add-at-in-Ok-Gap
+overflow_add-at-in-Ok-Gap c = let i = gap-room c in search rules
 
 pub loop-at-smaller : goal.loop-at-smaller
 loop-at-smaller c = omega (arith, gap-room c)
 
 pub loop-at-preserved : goal.loop-at-preserved
-loop-at-preserved c = going_gap _ _ _ _ _ _ _ _ c.loop-at.invariant c.loop-at-test.true c.in-Gap.g (sym c.in-Gap.is ∙ judged (goal.at.loop-at-preserved c).After-record_of-r)
+loop-at-preserved c = going_gap _ _ _ _ _ _ _ _ c.loop-at.invariant c.loop-at-test.true c.in-Ok-Gap.g (sym (rw c.in-Ok-Gap.field-0-is at c.in-Ok-Gap.is) ∙ judged (goal.at.loop-at-preserved c).After-record_of)
 
-pub overflow_add-at-then-rest-gt4 : goal.overflow_add-at-then-rest-gt4
-overflow_add-at-then-rest-gt4 c = let i = rw (rest-is c.args.bytes.now c.loop-at.at, length-drop) at c.if-rest-gt4.true in search rules
+pub overflow_add-result : goal.overflow_add-result
+overflow_add-result c = let i = rw (rest-is c.args.bytes.now c.loop-at.at, length-drop) at c.if-rest-gt4.true in search rules
 
 pub returns-then-rest-gt4 : goal.returns-then-rest-gt4
-returns-then-rest-gt4 c = c.refused.ensures ∙ going_after _ _ _ _ _ _ _ _ c.loop-at.invariant c.loop-at-test.true (sym c.in-End.is ∙ judged (goal.at.returns-then-rest-gt4 c).After-record_of-r) (rw (rest-is c.args.bytes.now c.loop-at.at) at c.if-rest-gt4.true)
+returns-then-rest-gt4 c = going_after _ _ _ _ _ _ _ _ c.loop-at.invariant c.loop-at-test.true (sym (rw c.in-Ok-End.field-0-is at c.in-Ok-End.is) ∙ judged (goal.at.returns-then-rest-gt4 c).After-record_of) (rw (rest-is c.args.bytes.now c.loop-at.at) at c.if-rest-gt4.true)
 
-pub returns-in-End : goal.returns-in-End
-returns-in-End c = going_end _ _ _ _ _ _ _ _ c.loop-at.invariant c.loop-at-test.true (sym c.in-End.is ∙ judged (goal.at.returns-in-End c).After-record_of-r) (rw (rest-is c.args.bytes.now c.loop-at.at) at c.if-rest-gt4.false)
+pub returns-in-Ok-End : goal.returns-in-Ok-End
+returns-in-Ok-End c =
+    going_end _ _ _ _ _ _ _ _ c.loop-at.invariant c.loop-at-test.true (sym (rw c.in-Ok-End.field-0-is at c.in-Ok-End.is) ∙ judged (goal.at.returns-in-Ok-End c).After-record_of) (rw (rest-is c.args.bytes.now c.loop-at.at) at c.if-rest-gt4.false)
 
-pub returns-in-Fault : goal.returns-in-Fault
-returns-in-Fault c = c.refused-in-Fault.ensures ∙ going_fault _ _ _ _ _ _ _ _ c.loop-at.invariant c.loop-at-test.true c.in-Fault.k (sym c.in-Fault.is ∙ judged (goal.at.returns-in-Fault c).After-record_of-r)
+pub returns-in-Err : goal.returns-in-Err
+returns-in-Err c = going_fault _ _ _ _ _ _ _ _ c.loop-at.invariant c.loop-at-test.true c.in-Err.number (sym c.in-Err.is ∙ judged (goal.at.returns-in-Err c).After-record_of)
 
 pub returns : goal.returns
-returns c = c.refused-2.ensures ∙ going_stop _ _ _ _ _ _ _ _ c.loop-at.invariant c.loop-at-test.false
+returns c = going_stop _ _ _ _ _ _ _ _ c.loop-at.invariant c.loop-at-test.false

@@ -1,4 +1,3 @@
-use borrow.Author.Rules.{rules}
 use Rattle.file_reader.proofs.Records.{length_numbers}
 use Rattle.file_reader.proofs.route_of.Goals as goal
 

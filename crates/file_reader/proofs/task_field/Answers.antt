@@ -1,5 +1,4 @@
 use Rattle.file_reader.proofs.Fields.{task_fields_holds}
-use borrow.Author.Rules.{rules}
 use Rattle.file_reader.proofs.task_field.Goals as goal
 
 pub returns : goal.returns

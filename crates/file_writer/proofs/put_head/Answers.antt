@@ -1,6 +1,5 @@
 use mathlib.Core.Path.{refl}
 use Rattle.file_writer.proofs.Stores.{field_run}
-use borrow.Author.Rules.{rules}
 use Rattle.file_writer.proofs.put_head.Goals as goal
 
 pub returns : goal.returns

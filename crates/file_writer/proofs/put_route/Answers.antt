@@ -1,7 +1,7 @@
 use native.Mathlib.Omega.{arith}
 use Prim.Native.Nat.{◌+◌, ◌*◌, ◌≤◌}
 use mathlib.Core.Path.{◌≡◌, sym}
-use lib.ListN.{length, length-map}
+use lib.ListN.{length}
 use lib.Seq.{length-take-le}
 use Rattle.schedule.specs.Schedules.{places_of}
 use Rattle.file_writer.proofs.Lengths.{length_chain}
@@ -23,7 +23,7 @@ pub put_head-requires : goal.put_head-requires
 put_head-requires c = omega (arith, room (goal.at.put_head-requires c).Start)
 
 pub put_places-requires : goal.put_places-requires
-put_places-requires c = let r = room (goal.at.put_places-requires c).Start in let k = c.requires.0 in search rules
+put_places-requires c = let r = room (goal.at.put_places-requires c).Start in let k = counted (goal.at.put_places-requires c).Start in search rules
 
 pub returns : goal.returns
 returns c = (

@@ -3,7 +3,6 @@ use Prim.Native.Nat.{◌+◌}
 use mathlib.Core.Path.{refl}
 use Rattle.file_writer.specs.FileBytes.{task_bytes}
 use Rattle.file_writer.proofs.Stores.{field_run}
-use borrow.Author.Rules.{rules}
 use Rattle.file_writer.proofs.put_task.Goals as goal
 
 pub returns : goal.returns

@@ -1,10 +1,9 @@
 use native.Mathlib.Omega.{arith}
 use mathlib.Core.Path.{◌≡◌}
-use lib.ListN.{length, length-map}
+use lib.ListN.{length}
 use lib.Seq.{length-take-le}
 use Rattle.schedule.specs.Schedules.{places_of}
 use Rattle.file_writer.proofs.Lengths.{length_chain}
-use borrow.Author.Rules.{rules}
 use Rattle.file_writer.proofs.route_length.Goals as goal
 
 pub returns : goal.returns

@@ -1,12 +1,12 @@
+use Rattle.std.proofs.lemmas.Result.{err_from_is_err_and}
 use mathlib.Core.Path.{◌∙◌}
 use Rattle.schedule_checks.proofs.ChosenChain.{choice_refused, choice_made}
-use Rattle.timing.specs.Answers.{warm_up_after}
-use borrow.Author.Rules.{rules}
 use Rattle.from_schedule.proofs.warm_up_of.Goals as goal
 
-pub returns-then-r-ne0 : goal.returns-then-r-ne0
-unfolding warm_up_after
-returns-then-r-ne0 c = choice_refused _ _ _ _ _ c.chain_number-c.ensures c.if-r-ne0.true
+pub returns-in_err-c : goal.returns-in_err-c
+returns-in_err-c c =
+    let p = err_from_is_err_and c.from_residual.result c.from_residual.ensures.1 in
+    rw (p.1, p.2) (choice_refused _ _ _ _ _ c.in_err-c.ensures)
 
 pub returns : goal.returns
-returns c = c.warm_up.ensures ∙ choice_made _ _ _ _ _ c.chain_number-c.ensures c.if-r-ne0.false
+returns c = c.warm_up.ensures ∙ choice_made _ _ _ _ _ c.in_ok-c.ensures

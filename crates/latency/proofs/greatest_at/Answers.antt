@@ -1,6 +1,5 @@
 use Rattle.chain.specs.Flat.{tasks_in}
 use Rattle.latency.proofs.Exits.{never_late}
-use borrow.Author.Rules.{rules}
 use Rattle.latency.proofs.greatest_at.Goals as goal
 
 pub returns : goal.returns

@@ -4,7 +4,6 @@ use Rattle.chain.specs.Flat.{tasks_in}
 use Rattle.latency.specs.declared.Greatest.{Greatest}
 use Rattle.latency.specs.Latency.{AcceptedAt}
 use Rattle.latency.proofs.Exits.{walk_given}
-use borrow.Author.Rules.{rules}
 use Rattle.latency.proofs.greatest_of.Goals as goal
 use Rattle.latency.proofs.greatest_of.Goals.{After-longest_place-p}
 

@@ -1,7 +1,6 @@
 use Rattle.chain.specs.Flat.{tasks_in}
 use Rattle.outset.specs.Range.{range_cut}
 use Rattle.latency.proofs.Walking.{begins_ordered, first_begins, first_alone}
-use borrow.Author.Rules.{rules}
 use Rattle.latency.proofs.walk_from.Goals as goal
 
 pub first-first-requires : goal.first-first-requires

@@ -1,11 +1,9 @@
-use native.Mathlib.Omega.{arith}
 use Prim.Native.Nat.{◌/◌}
 use mathlib.Core.Path.{ap}
 use Rattle.task.specs.declared.Place.{Place}
 use Rattle.chain.specs.Flat.{tasks_in, in_count}
 use Rattle.timing.proofs.Exits.{entry_job}
 use Rattle.latency.proofs.Exits.{range_of_holds, met_range}
-use borrow.Author.Rules.{rules}
 use Rattle.latency.proofs.walk_range.Goals as goal
 
 pub walk_from-requires : goal.walk_from-requires

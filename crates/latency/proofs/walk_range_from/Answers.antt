@@ -2,7 +2,6 @@ use Rattle.chain.specs.Flat.{tasks_in}
 use Rattle.outset.specs.Range.{range_cut}
 use Rattle.latency.proofs.Walking.{first_begins}
 use Rattle.latency.proofs.Exits.{met_from}
-use borrow.Author.Rules.{rules}
 use Rattle.latency.proofs.walk_range_from.Goals as goal
 
 pub first-first-requires : goal.first-first-requires

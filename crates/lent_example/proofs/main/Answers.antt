@@ -1,10 +1,12 @@
+use Rattle.std.specs.Prelude.{Result}
 use Prim.Native.Nat.{ℕ}
 use mathlib.Core.Path.{◌≡◌, ap, ◌∙◌}
 use mathlib.Core.List.{List, [], ◌∷◌}
 use lib.ListN.{get_or}
 use borrow.Author.Rules.{rules}
 use borrow.Author.Tests.{eq-eqb}
-use Rattle.maker.specs.declared.Made.{Made}
+use Rattle.maker.specs.declared.Unmade.{Unmade}
+use Rattle.maker.specs.declared.Figures.{Figures}
 use Rattle.maker.specs.Making.{told}
 use Rattle.lent_example.proofs.ChainA.{whole_a, leaves_of_a}
 use Rattle.lent_example.proofs.main.Goals as goal
@@ -15,7 +17,7 @@ table : (c : After-made_of-m) → (c.made_of-m.result ≡ whole_a) × (c.made_of
 table c = leaves_of_a _ _ _ c.made_of-m.ensures
 
 pub expect-requires : goal.expect-requires
-expect-requires c = eq-eqb _ _ (c.walked_of.ensures ∙ ap (λ (r : Made). (told r).walked) (table (goal.at.expect-requires c).After-made_of-m).0)
+expect-requires c = eq-eqb _ _ (c.walked_of.ensures ∙ ap (λ (r : Result Figures Unmade). (told r).walked) (table (goal.at.expect-requires c).After-made_of-m).0)
 
 pub expect-requires-2 : goal.expect-requires-2
 expect-requires-2 c = eq-eqb _ _ (ap (λ (l : List ℕ). get_or l 0 0) (table (goal.at.expect-requires-2 c).After-made_of-m).1)

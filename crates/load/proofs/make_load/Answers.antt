@@ -1,12 +1,10 @@
-use Rattle.std.proofs.Common.{◌∙◌, arith, rules}
-use Rattle.load.proofs.Exits.{too_few, too_many, of_tasks}
+use Rattle.std.proofs.Common.{arith}
+use Rattle.std.proofs.lemmas.Grind.{common_steps}
+use Rattle.load.proofs.Exits.{wrong_places, of_tasks}
 use Rattle.load.proofs.make_load.Goals as goal
 
-pub returns-then-places-lt1 : goal.returns-then-places-lt1
-returns-then-places-lt1 c = c.no_load.ensures ∙ too_few _ _ (omega arith)
-
-pub returns-then-places-gt12 : goal.returns-then-places-gt12
-returns-then-places-gt12 c = c.no_load-then-places-gt12.ensures ∙ too_many _ _ (omega arith) (omega arith)
+pub returns-then-not-contains : goal.returns-then-not-contains
+returns-then-not-contains c = wrong_places _ _ (λ h. grind (arith, common_steps))
 
 pub returns : goal.returns
-returns c = of_tasks _ _ _ (omega arith) (omega arith) c.tasks_from.ensures
+returns c = of_tasks _ _ _ (grind (arith, common_steps)) (grind (arith, common_steps)) c.tasks_from.ensures

@@ -1,16 +1,11 @@
-use mathlib.Core.Path.{◌∙◌}
-use borrow.Author.Rules.{rules}
+use Rattle.std.specs.Prelude.{Err}
+use Rattle.std.proofs.Common.{ap, ◌∙◌}
+use Rattle.load_file.specs.declared.Text.{Text}
 use Rattle.load_file.proofs.Answering.{wrong_places, right_places}
 use Rattle.load_file.proofs.places_answer.Goals as goal
 
-pub returns-in-Of : goal.returns-in-Of
-returns-in-Of c =
-    let n = c.number_of in
-    let a = c.args in
-    c.file_answer.ensures ∙ right_places a.seed a.places.now n.result n.ensures _ c.in-Of.is
+pub returns-in_default : goal.returns-in_default
+returns-in_default c = ap (λ (t : Text). Err t) c.text_of.ensures ∙ wrong_places _ _ c.number_of.result c.number_of.ensures c.in_default.is
 
-pub returns-in-Wrong : goal.returns-in-Wrong
-returns-in-Wrong c =
-    let n = c.number_of in
-    let a = c.args in
-    c.tell.ensures ∙ wrong_places a.seed a.places.now n.result n.ensures c.in-Wrong.is
+pub returns : goal.returns
+returns c = c.file_answer.ensures ∙ right_places _ _ c.number_of.result c.number_of.ensures _ c.in-Some.is

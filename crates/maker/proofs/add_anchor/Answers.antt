@@ -1,5 +1,4 @@
 use Rattle.maker.proofs.Turn.{add_same, add_repeat, add_new}
-use borrow.Author.Rules.{rules}
 use Rattle.maker.proofs.add_anchor.Goals as goal
 
 pub returns-then-after-start : goal.returns-then-after-start

@@ -1,6 +1,4 @@
-use lib.ListN.{length-map}
 use Rattle.chain.proofs.Filling.{Lent, lent}
-use borrow.Author.Rules.{rules}
 use Rattle.maker.proofs.make_table.Goals as goal
 use Rattle.maker.proofs.make_table.Goals.{After-flat_length-n}
 

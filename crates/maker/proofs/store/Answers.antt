@@ -1,6 +1,5 @@
 use mathlib.Core.Path.{sym}
 use lib.Seq.{set_out}
-use borrow.Author.Rules.{rules}
 use Rattle.maker.proofs.store.Goals as goal
 
 pub returns-else-i-list : goal.returns-else-i-list

@@ -1,10 +1,8 @@
 use native.Mathlib.Omega.{arith}
-use Prim.Native.Nat.{◌-◌}
-use mathlib.Core.Path.{◌≡◌, refl, ◌∙◌}
-use lib.ListN.{length}
+use mathlib.Core.Path.{refl, ◌∙◌}
 use Rattle.chain.specs.Flat.{tasks_in}
 use Rattle.maker.proofs.Turn.{going_first, going_second}
-use Rattle.maker.proofs.Walking.{Walking, walking_start, walking_adds, walking_steps, walking_turn, walking_end, walking_leaves}
+use Rattle.maker.proofs.Walking.{walking_start, walking_adds, walking_steps, walking_turn, walking_end, walking_leaves}
 use Rattle.maker.proofs.walk.Goals as goal
 
 pub loop-walked-init : goal.loop-walked-init

@@ -1,10 +1,8 @@
-use native.Mathlib.Omega.{arith}
 use Prim.Native.Nat.{◌-◌}
-use mathlib.Core.Path.{◌≡◌, refl, ◌∙◌}
+use mathlib.Core.Path.{◌≡◌}
 use lib.ListN.{length}
 use Rattle.chain.specs.Flat.{tasks_in}
-use Rattle.maker.proofs.Turn.{going_first, going_second}
-use Rattle.maker.proofs.Walking.{Walking, walking_start, walking_adds, walking_steps, walking_turn, walking_end, walking_leaves}
+use Rattle.maker.proofs.Walking.{Walking}
 use Rattle.maker.proofs.walk.Given as goal
 
 abbrev pub invariant-loop-walked : goal.invariant-loop-walked

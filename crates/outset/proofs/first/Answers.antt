@@ -1,6 +1,5 @@
 use Rattle.chain.specs.Flat.{tasks_in}
 use Rattle.outset.proofs.Loops.{first_back_fits, first_on_fits, first_long, here_fits, first_is}
-use borrow.Author.Rules.{rules}
 use Rattle.outset.proofs.first.Goals as goal
 
 pub first_back-requires : goal.first_back-requires

@@ -1,7 +1,6 @@
 use native.Mathlib.Omega.{arith}
 use lib.ListN.{length-set}
 use Rattle.outset.specs.Filling.{given}
-use borrow.Author.Rules.{rules}
 use Rattle.outset.proofs.give.Goals as goal
 
 pub bounds-reciprocals-k-2 : goal.bounds-reciprocals-k-2

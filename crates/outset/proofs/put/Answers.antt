@@ -1,6 +1,5 @@
 use native.Mathlib.Omega.{arith}
 use lib.ListN.{length-set}
-use borrow.Author.Rules.{rules}
 use Rattle.outset.proofs.put.Goals as goal
 
 pub bounds-state-j-2 : goal.bounds-state-j-2

@@ -1,7 +1,6 @@
 use native.Mathlib.Omega.{arith}
 use mathlib.Core.Path.{refl}
 use Rattle.outset.specs.Filling.{scale_serves, scale_fits, long_scale_fits}
-use borrow.Author.Rules.{rules}
 use Rattle.outset.proofs.scale_of.Goals as goal
 
 pub overflow_add-result : goal.overflow_add-result

@@ -2,13 +2,12 @@ use native.Mathlib.Omega.{arith}
 use Prim.Native.Nat.{◌*◌}
 use mathlib.Core.Path.{◌≡◌, refl, sym, ap, ◌∙◌, subst}
 use mathlib.Core.List.{List}
-use lib.ListN.{length, take, length-map}
+use lib.ListN.{length, take}
 use lib.Seq.{length-take-le}
 use Rattle.task.specs.declared.Task.{Task}
 use Rattle.chain.specs.Chains.{given_of}
-use Rattle.chain.specs.Flat.{task_fields, flat_chain, given_in, length_flat, flat_front}
+use Rattle.chain.specs.Flat.{task_fields, given_in, length_flat, flat_front}
 use Rattle.phase.specs.InList.{Filled, phase_in}
-use borrow.Author.Rules.{rules}
 use Rattle.phase.proofs.phase_in.Goals as goal
 use Rattle.phase.proofs.phase_in.Goals.{After-flat-tasks, Start}
 

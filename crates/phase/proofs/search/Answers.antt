@@ -1,12 +1,11 @@
 use native.Mathlib.Omega.{arith}
-use Prim.Native.Nat.{ℕ, ◌*◌, ◌/◌}
-use mathlib.Core.Path.{sym, ap, ◌∙◌, subst}
-use lib.ListN.{length, length-map}
+use Prim.Native.Nat.{ℕ, ◌*◌}
+use mathlib.Core.Path.{subst}
+use lib.ListN.{length-map}
 use Rattle.task.specs.Jobs.{place_of}
 use Rattle.chain.specs.Flat.{given_in}
 use Rattle.phase.specs.InList.{Finds}
 use Rattle.phase.proofs.Tries.{longest_inside, longest_pos, quotient_fits, tries_begin, longest_walked}
-use borrow.Author.Rules.{rules}
 use Rattle.phase.proofs.search.Goals as goal
 
 pub overflow_sub-p : goal.overflow_sub-p

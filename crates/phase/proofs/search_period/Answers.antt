@@ -1,13 +1,12 @@
 use native.Mathlib.Omega.{arith}
 use Prim.Native.Nat.{ℕ, ◌*◌, ◌/◌}
-use mathlib.Core.Path.{sym, ap, ◌∙◌, subst}
-use lib.ListN.{length, get_or}
+use mathlib.Core.Path.{ap, ◌∙◌, subst}
+use lib.ListN.{get_or}
 use Rattle.euclid.specs.Divisor.{gcd_of}
 use Rattle.chain.specs.Flat.{given_in, tasks_in}
 use Rattle.latency.specs.LongestPlace.{longest_period}
 use Rattle.phase.specs.InList.{Finds}
 use Rattle.phase.proofs.AllPhases.{task_inside, period_at_holds, phases_few, found_all, none_all}
-use borrow.Author.Rules.{rules}
 use Rattle.phase.proofs.search_period.Goals as goal
 
 pub task_at-t-requires : goal.task_at-t-requires

@@ -1,16 +1,11 @@
 use native.Mathlib.Omega.{arith}
-use Prim.Native.Nat.{◌-◌, ◌≤◌}
-use mathlib.Core.Path.{◌≡◌, refl, sym, ◌∙◌}
-use mathlib.Core.List.{map}
-use lib.ListN.{length, take, length-set}
+use mathlib.Core.Path.{refl, sym}
+use lib.ListN.{length-set}
 use Rattle.schedule.specs.Arrays.{Arrays}
 use Rattle.schedule.proofs.ArrayLaws.{arrays}
-use Rattle.schedule.specs.Schedules.{padded}
 use Rattle.schedule.specs.Padding.{padded_none}
-use Rattle.promises.specs.Promises.{chains_of, chain_latency}
 use Rattle.promises.proofs.EveryChain.{checks_sound}
-use Rattle.promises.proofs.Turns.{chain_accepted, latency_stored, latencies_end}
-use borrow.Author.Rules.{rules}
+use Rattle.promises.proofs.Turns.{chain_accepted, latency_stored}
 use Rattle.promises.proofs.latencies_of.Goals as goal
 use Rattle.promises.proofs.latencies_of.Goals.{Start}
 
@@ -19,7 +14,7 @@ long : (c : Start) → Arrays c.args.s
 long c = arrays c.args.s _ c.well_formed.0
 
 pub loop-i-init : goal.loop-i-init
-loop-i-init c = (omega arith, refl, sym (padded_none 0 4))
+loop-i-init c = (refl, sym (padded_none 0 4))
 
 pub offset_bounds-s-i : goal.offset_bounds-s-i
 offset_bounds-s-i c = omega (arith, (checks_sound c.args.s c.requires).few_chains)
@@ -36,11 +31,5 @@ offset_bounds-latencies-i c = omega (arith, (checks_sound c.args.s c.requires).f
 pub bounds-latencies-i : goal.bounds-latencies-i
 bounds-latencies-i c = omega (arith, (checks_sound c.args.s c.requires).few_chains)
 
-pub overflow_add-i : goal.overflow_add-i
-overflow_add-i c = omega (arith, (checks_sound c.args.s c.requires).few_chains)
-
 pub loop-i-preserved : goal.loop-i-preserved
-loop-i-preserved c = (omega arith, simp length-set c.loop-i.invariant.1, latency_stored c.args.s (long (goal.at.loop-i-preserved c).Start) c.requires c.loop-i.i (omega arith) _ c.chain_of-c.ensures _ _ c.loop-i.invariant.2 c.latency_of.ensures)
-
-pub returns : goal.returns
-returns c = c.loop-i.invariant.2 ∙ latencies_end c.args.s (long (goal.at.returns c).Start) c.requires c.loop-i.i (omega arith)
+loop-i-preserved c = (simp length-set c.loop-i.invariant.0, latency_stored c.args.s (long (goal.at.loop-i-preserved c).Start) c.requires c.loop-i.i (omega arith) _ c.chain_of-c.ensures _ _ c.loop-i.invariant.1 c.latency_of.ensures)

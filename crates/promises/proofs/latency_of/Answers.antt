@@ -1,13 +1,12 @@
 use native.Mathlib.Omega.{arith}
 use mathlib.Core.Path.{ap, ◌∙◌}
-use lib.ListN.{take, length-map}
+use lib.ListN.{take}
 use Rattle.chain.specs.Chains.{placed, tasks_of}
 use Rattle.chain.specs.Flat.{given_in}
 use Rattle.chain.specs.Hyperperiod.{hyper_of}
 use Rattle.chain.proofs.CheckLaws.{FactsIn, accepted_in}
 use Rattle.chain.proofs.Filling.{Lent, lent}
 use Rattle.latency.specs.Latency.{greatest_latency}
-use borrow.Author.Rules.{rules}
 use Rattle.promises.proofs.latency_of.Goals as goal
 use Rattle.promises.proofs.latency_of.Goals.{After-flat_length-n}
 
@@ -17,12 +16,6 @@ front c = lent _ c.well_formed.0.1.1.0.1.0.1 _ c.flat-tasks.ensures _ c.flat_len
 -- the lent list is accepted as the chain is
 facts : (c : After-flat_length-n) → FactsIn (placed c.args.c.gap (given_in (take c.flat_length-n.result c.flat-tasks.result))) (hyper_of (tasks_of c.args.c))
 facts c = let s = c.before in accepted_in s.args.c.gap (given_in (take c.flat_length-n.result c.flat-tasks.result)) (hyper_of (tasks_of s.args.c)) ((front c).stands.verdict ∙ s.requires)
-
-pub slice_bounds-tasks-end : goal.slice_bounds-tasks-end
-slice_bounds-tasks-end c = (front c).inside
-
-pub slice_bounds-greatest_of-end : goal.slice_bounds-greatest_of-end
-slice_bounds-greatest_of-end c = (front (goal.at.slice_bounds-greatest_of-end c).After-flat_length-n).long
 
 pub greatest_of-requires : goal.greatest_of-requires
 greatest_of-requires c = let f = facts (goal.at.greatest_of-requires c).After-flat_length-n in (f.sound, omega (arith, f.hyper, f.small))

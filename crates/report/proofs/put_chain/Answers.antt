@@ -1,15 +1,14 @@
+use Rattle.std.specs.Prelude.{Ok, Err}
 use native.Mathlib.Omega.{arith}
 use Prim.Native.Nat.{ℕ, ◌*◌}
 use mathlib.Core.Path.{◌≡◌, refl, ap, ◌∙◌}
-use lib.ListN.{length, take, length-map}
-use Rattle.chain.specs.declared.Verdict.TheVariants.{Accepted}
+use lib.ListN.{length, take}
 use Rattle.chain.specs.Chains.{tasks_of}
 use Rattle.chain.specs.Checks.{verdict_of}
 use Rattle.chain.specs.Flat.{task_fields, length_flat, in_count}
 use Rattle.chain.proofs.Filling.{Lent, lent}
 use Rattle.latency.specs.LongestPlace.{longest_place}
 use Rattle.report.proofs.Exits.{chain_refused, chain_short, well_made, chain_whole}
-use borrow.Author.Rules.{rules}
 use Rattle.report.proofs.put_chain.Goals as goal
 use Rattle.report.proofs.put_chain.Goals.{After-flat_length-n, After-longest_place-p}
 
@@ -17,7 +16,7 @@ front : (c : After-flat_length-n) → Lent c.args.c c.flat-tasks.result c.flat_l
 front c = lent _ c.well_formed.1.1.0.1.1.0.1.0.1 _ c.flat-tasks.ensures _ c.flat_length-n.ensures
 
 -- of a chain that is accepted, the place of its longest period
-place : (c : After-longest_place-p) → (h : ℕ) → verdict_of c.args.c ≡ Accepted h → c.longest_place-p.result ≡ longest_place (tasks_of c.args.c)
+place : (c : After-longest_place-p) → (h : ℕ) → verdict_of c.args.c ≡ Ok h → c.longest_place-p.result ≡ longest_place (tasks_of c.args.c)
 place c h e = c.longest_place-p.ensures ∙ ap longest_place ((lent _ c.well_formed.1.1.0.1.1.0.1.0.1 _ c.flat-tasks.ensures _ c.flat_length-n.ensures).stands.tasks h e)
 
 twelve-long : (c : After-flat_length-n) → length c.flat-tasks.result ≡ 36
@@ -40,14 +39,14 @@ slice_bounds-make_table_on-end c = (front (goal.at.slice_bounds-make_table_on-en
 
 pub put_table-requires : goal.put_table-requires
 put_table-requires c =
-    let w = well_made c.args.c c.well_formed.1.1.0.1.1.0.1.0.1 _ _ _ _ _ _ c.requires.0 c.requires.1 (place (goal.at.put_table-requires c).After-longest_place-p) (c.make_table_on-m.ensures _ (front (goal.at.put_table-requires c).After-flat_length-n).stands) _ c.in-Whole.is in
+    let w = well_made c.args.c c.well_formed.1.1.0.1.1.0.1.0.1 _ _ _ _ _ _ c.requires.0 c.requires.1 (place (goal.at.put_table-requires c).After-longest_place-p) (c.make_table_on-m.ensures _ (front (goal.at.put_table-requires c).After-flat_length-n).stands) _ c.in-Ok.is in
     (w.0, w.1, w.2, w.3, c.requires.2)
 
-pub returns-in-Refused : goal.returns-in-Refused
-returns-in-Refused c = (chain_refused c.args.c c.well_formed.1.1.0.1.1.0.1.0.1 _ _ _ _ _ _ c.requires.0 c.requires.1 (place (goal.at.returns-in-Refused c).After-longest_place-p) (c.make_table_on-m.ensures _ (front (goal.at.returns-in-Refused c).After-flat_length-n).stands) _ _ _ _ _ c.in-Refused.is c.put_refusal.ensures.0, omega arith)
+pub returns-in-Err-Refused : goal.returns-in-Err-Refused
+returns-in-Err-Refused c = (chain_refused c.args.c c.well_formed.1.1.0.1.1.0.1.0.1 _ _ _ _ _ _ c.requires.0 c.requires.1 (place (goal.at.returns-in-Err-Refused c).After-longest_place-p) (c.make_table_on-m.ensures _ (front (goal.at.returns-in-Err-Refused c).After-flat_length-n).stands) _ _ _ _ _ (c.in-Err-Refused.is ∙ ap Err (rw c.in-Err-Refused.is at c.in-Err-Refused.field-0-is)) c.put_refusal.ensures.0, omega arith)
 
-pub returns-in-Short : goal.returns-in-Short
-returns-in-Short c = (chain_short c.args.c c.well_formed.1.1.0.1.1.0.1.0.1 _ _ _ _ _ _ c.requires.0 c.requires.1 (place (goal.at.returns-in-Short c).After-longest_place-p) (c.make_table_on-m.ensures _ (front (goal.at.returns-in-Short c).After-flat_length-n).stands) _ _ _ _ _ c.in-Short.is c.put_refusal-in-Short.ensures.0, omega arith)
+pub returns-in-Err-Short : goal.returns-in-Err-Short
+returns-in-Err-Short c = (chain_short c.args.c c.well_formed.1.1.0.1.1.0.1.0.1 _ _ _ _ _ _ c.requires.0 c.requires.1 (place (goal.at.returns-in-Err-Short c).After-longest_place-p) (c.make_table_on-m.ensures _ (front (goal.at.returns-in-Err-Short c).After-flat_length-n).stands) _ _ _ _ _ (c.in-Err-Short.is ∙ ap Err (rw c.in-Err-Short.is at c.in-Err-Short.field-0-is)) c.put_refusal-in-Err-Short.ensures.0, omega arith)
 
-pub returns-in-Whole : goal.returns-in-Whole
-returns-in-Whole c = (chain_whole c.args.c c.well_formed.1.1.0.1.1.0.1.0.1 _ _ _ _ _ _ c.requires.0 c.requires.1 (place (goal.at.returns-in-Whole c).After-longest_place-p) (c.make_table_on-m.ensures _ (front (goal.at.returns-in-Whole c).After-flat_length-n).stands) _ c.in-Whole.is _ _ _ _ c.put_table.ensures.0, c.put_table.ensures.1)
+pub returns-in-Ok : goal.returns-in-Ok
+returns-in-Ok c = (chain_whole c.args.c c.well_formed.1.1.0.1.1.0.1.0.1 _ _ _ _ _ _ c.requires.0 c.requires.1 (place (goal.at.returns-in-Ok c).After-longest_place-p) (c.make_table_on-m.ensures _ (front (goal.at.returns-in-Ok c).After-flat_length-n).stands) _ c.in-Ok.is _ _ _ _ c.put_table.ensures.0, c.put_table.ensures.1)

@@ -1,7 +1,6 @@
 use native.Mathlib.Omega.{arith}
 use Rattle.text.specs.Putting.{puts_two}
 use Rattle.report.specs.Report.{part_text}
-use borrow.Author.Rules.{rules}
 use Rattle.report.proofs.put_part.Goals as goal
 
 pub returns : goal.returns

@@ -1,12 +1,12 @@
-use native.Mathlib.Omega.{arith}
-use mathlib.Core.Path.{ap}
-use Rattle.file_reader.specs.declared.FileRead.{FileRead}
-use Rattle.round_trip.proofs.Trips.{rewrite_refused, rewrite_written}
 use borrow.Author.Rules.{rules}
+use Rattle.std.proofs.lemmas.Result.{err_from_is_err_and}
+use Rattle.round_trip.proofs.Trips.{rewrite_refused, rewrite_written}
 use Rattle.round_trip.proofs.rewrite.Goals as goal
 
-pub returns-then-r-ne0 : goal.returns-then-r-ne0
-returns-then-r-ne0 c = rewrite_refused _ _ _ (ap (λ (x : FileRead). x.refusal) c.read_file-read.ensures) c.if-r-ne0.true
+pub returns-in_err-s : goal.returns-in_err-s
+returns-in_err-s c =
+    let p = err_from_is_err_and c.from_residual.result c.from_residual.ensures.1 in
+    rw (p.1, p.2) (rewrite_refused _ _ _ c.in_err-s.ensures)
 
 pub returns : goal.returns
-returns c = rewrite_written c.args.file.now _ _ c.read_file-read.result _ (λ i. omega (arith, c.shared_slice_known-1.given i)) c.read_file-read.ensures c.if-r-ne0.false c.write_file.ensures
+returns c = rewrite_written c.args.file.now _ _ _ _ (λ i. search rules) c.in_ok-s.ensures c.write_file.ensures

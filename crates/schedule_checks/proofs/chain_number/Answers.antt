@@ -1,11 +1,8 @@
-use mathlib.Core.Path.{sym, ap, ◌∙◌}
-use Rattle.refusal.specs.declared.Refusal.{Refusal}
+use Rattle.std.proofs.lemmas.Result.{err_from_is_err_and}
 use Rattle.schedule_checks.proofs.Choice.{schedule_refused}
-use borrow.Author.Rules.{rules}
 use Rattle.schedule_checks.proofs.chain_number.Goals as goal
 
-pub returns-then-r-ne0 : goal.returns-then-r-ne0
-returns-then-r-ne0 c = c.none_chosen.ensures ∙ schedule_refused _ _ c.fault_of-r.result c.fault_of-r.ensures c.if-r-ne0.true
-
-pub chain_in-requires : goal.chain_in-requires
-chain_in-requires c = ap (λ (x : Refusal). x.number) (sym c.fault_of-r.ensures) ∙ c.if-r-ne0.false
+pub returns-in_err-check : goal.returns-in_err-check
+returns-in_err-check c =
+    let p = err_from_is_err_and c.from_residual.result c.from_residual.ensures.1 in
+    rw (p.1, p.2) (schedule_refused _ _ _ c.in_err-check.ensures)

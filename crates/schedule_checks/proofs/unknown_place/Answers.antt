@@ -1,39 +1,30 @@
-use native.Mathlib.Omega.{arith}
-use Prim.Native.Nat.{◌+◌, ◌-◌, ◌≤◌}
-use mathlib.Core.Path.{◌≡◌, refl, sym, ap, ◌∙◌}
-use mathlib.Core.List.{◌∷◌, map}
-use lib.ListN.{take, drop, get_or}
-use Rattle.chain.proofs.Front.{front_cons, front_end}
-use borrow.Author.Rules.{rules}
+use Rattle.std.proofs.Common.{◌∙◌, sym, ap, map}
+use Rattle.std.specs.Prelude.{ℕ, Option, is_some}
+use Rattle.std.proofs.lemmas.List.{at_drop_more, at_drop_all}
+use Rattle.chain.specs.Checks.{found}
+use Rattle.chain.proofs.Found.{none_found}
 use Rattle.schedule.specs.Schedules.{places_of, no_route}
 use Rattle.schedule_checks.specs.Checks.{unknown_place}
-use Rattle.schedule_checks.proofs.SoundSchedule.{placed_front}
+use Rattle.schedule_checks.proofs.SoundSchedule.{placed_at}
 use Rattle.schedule_checks.proofs.Faults.{chains_past, chains_here, chains_none}
 use Rattle.schedule_checks.proofs.unknown_place.Goals as goal
-use Rattle.schedule_checks.proofs.unknown_place.Goals.{In-loop-i}
 
--- the route at the loop's position, and the rest
-here : (c : In-loop-i) → drop c.loop-i.i (take c.args.chains c.args.routes) ≡ get_or c.args.routes c.loop-i.i no_route ∷ drop (c.loop-i.i + 1) (take c.args.chains c.args.routes)
-here c = front_cons c.args.routes c.args.chains c.loop-i.i no_route c.loop-i-test.true (omega (arith, c.well_formed.0.1.0.1, c.requires.0))
+pub shared_ref_as_front-first_unknown : goal.shared_ref_as_front-first_unknown
+shared_ref_as_front-first_unknown c = (placed_at c.args.routes.now c.requires c.loop-route.route-index c.loop-route-test.true).1
 
-pub loop-i-init : goal.loop-i-init
-loop-i-init c = (omega arith, refl)
+pub returns-then-is_some : goal.returns-then-is_some
+returns-then-is_some c =
+    let l = c.loop-route in
+    let more = at_drop_more (λ rs. unknown_place c.args.numbers.now (map places_of rs)) c.args.routes.now l.route-index no_route c.loop-route-test.true in
+    c.first_unknown-unknown.ensures ∙ sym (ap found (l.invariant ∙ more ∙ chains_here _ _ _ (ap (λ (o : Option ℕ). is_some o) (sym c.first_unknown-unknown.ensures) ∙ sym c.is_some.ensures ∙ c.if-is_some.true)))
 
-pub first_unknown-p-requires : goal.first_unknown-p-requires
-first_unknown-p-requires c = ((placed_front c.args.routes c.args.chains (omega (arith, c.well_formed.0.1.0.1, c.requires.0)) c.requires.1 c.loop-i.i c.loop-i-test.true).1, c.requires.2)
-
-pub returns-then-p-ne0 : goal.returns-then-p-ne0
-returns-then-p-ne0 c =
-    let ns = take c.args.count c.args.numbers.now in
-    sym (c.loop-i.invariant.1 ∙ ap (λ (l : _). unknown_place ns (map places_of l)) (here (goal.at.returns-then-p-ne0 c).In-loop-i) ∙ chains_here ns _ _ c.first_unknown-p.result c.first_unknown-p.ensures c.if-p-ne0.true)
-
-pub loop-i-preserved : goal.loop-i-preserved
-loop-i-preserved c =
-    let ns = take c.args.count c.args.numbers.now in
-    (omega arith, c.loop-i.invariant.1 ∙ ap (λ (l : _). unknown_place ns (map places_of l)) (here (goal.at.loop-i-preserved c).In-loop-i) ∙ chains_past ns _ _ c.first_unknown-p.result c.first_unknown-p.ensures c.if-p-ne0.false)
+pub loop-route-preserved : goal.loop-route-preserved
+loop-route-preserved c =
+    let l = c.loop-route in
+    let more = at_drop_more (λ rs. unknown_place c.args.numbers.now (map places_of rs)) c.args.routes.now l.route-index no_route c.loop-route-test.true in
+    l.invariant ∙ more ∙ chains_past _ _ _ (ap (λ (o : Option ℕ). is_some o) (sym c.first_unknown-unknown.ensures) ∙ sym c.is_some.ensures ∙ c.if-is_some.false)
 
 pub returns : goal.returns
 returns c =
-    let ns = take c.args.count c.args.numbers.now in
-    let e = front_end c.args.routes c.args.chains c.loop-i.i c.loop-i-test.false (omega (arith, c.well_formed.0.1.0.1, c.requires.0)) in
-    sym (c.loop-i.invariant.1 ∙ ap (λ (l : _). unknown_place ns (map places_of l)) e ∙ chains_none ns)
+    let l = c.loop-route in
+    none_found _ (l.invariant ∙ at_drop_all (λ rs. unknown_place c.args.numbers.now (map places_of rs)) c.args.routes.now l.route-index c.loop-route-test.false ∙ chains_none c.args.numbers.now)

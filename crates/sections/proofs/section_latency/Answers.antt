@@ -6,7 +6,6 @@ use Rattle.chain.specs.Flat.{given_in, tasks_in, in_long}
 use Rattle.latency.specs.Latency.{greatest_latency}
 use Rattle.sections.specs.Uniform.{Cuttable, section_cuttable}
 use Rattle.sections.specs.PartOfList.{in_section}
-use borrow.Author.Rules.{rules}
 use Rattle.sections.proofs.section_latency.Goals as goal
 
 pub slice_bounds-greatest_of-end : goal.slice_bounds-greatest_of-end

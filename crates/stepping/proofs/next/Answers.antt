@@ -1,12 +1,7 @@
-use native.Mathlib.Omega.{arith}
 use mathlib.Core.Path.{refl}
 use Rattle.chain.specs.Flat.{tasks_in}
-use Rattle.stepping.proofs.Step.{job_fits_on, back_fit, on_fit, here_fit, same_long, stepped}
-use borrow.Author.Rules.{rules}
+use Rattle.stepping.proofs.Step.{back_fit, on_fit, here_fit, stepped}
 use Rattle.stepping.proofs.next.Goals as goal
-
-pub overflow_add-state : goal.overflow_add-state
-overflow_add-state c = let s = c.before in omega (arith, job_fits_on (tasks_in s.args.gap s.args.tasks.now) s.args.n s.args.p s.args.reciprocals.now s.args.state.now s.requires)
 
 pub step_back-requires : goal.step_back-requires
 step_back-requires c = let s = c.before in back_fit (tasks_in s.args.gap s.args.tasks.now) s.args.n s.args.p s.args.reciprocals.now s.args.state.now s.requires _
@@ -16,9 +11,6 @@ step_on-requires c = let s = c.before in (s.requires.at_job.inside, on_fit (task
 
 pub here-requires : goal.here-requires
 here-requires c = let s = c.before in here_fit (tasks_in s.args.gap s.args.tasks.now) s.args.n s.args.p s.args.reciprocals.now s.args.state.now s.requires _ _ c.step_back.ensures _ c.step_on.ensures refl
-
-pub shape_of-state : goal.shape_of-state
-shape_of-state c = let s = c.before in same_long (tasks_in s.args.gap s.args.tasks.now) s.args.n s.args.p s.args.reciprocals.now s.args.state.now s.requires _ _ c.step_back.ensures _ c.step_on.ensures
 
 pub returns : goal.returns
 returns c = let s = c.before in stepped (tasks_in s.args.gap s.args.tasks.now) s.args.n s.args.p s.args.reciprocals.now s.args.state.now s.requires _ _ c.step_back.ensures _ c.step_on.ensures refl _ c.here.ensures

@@ -1,6 +1,5 @@
 use native.Mathlib.Omega.{arith}
 use Rattle.table_text.proofs.Lines.{figures_lines}
-use borrow.Author.Rules.{rules}
 use Rattle.table_text.proofs.put_figures.Goals as goal
 
 pub returns : goal.returns

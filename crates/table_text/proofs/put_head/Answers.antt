@@ -1,7 +1,6 @@
 use native.Mathlib.Omega.{arith}
 use Rattle.text.specs.Putting.{puts_two}
 use Rattle.table_text.specs.TableText.{head_text}
-use borrow.Author.Rules.{rules}
 use Rattle.table_text.proofs.put_head.Goals as goal
 
 pub returns : goal.returns

@@ -1,6 +1,5 @@
 use native.Mathlib.Omega.{arith}
 use Rattle.table_text.specs.TableText.{refused_text}
-use borrow.Author.Rules.{rules}
 use Rattle.table_text.proofs.put_refusal.Goals as goal
 
 pub returns : goal.returns

@@ -2,7 +2,6 @@ use native.Mathlib.Omega.{arith}
 use Rattle.text.specs.Putting.{puts_two}
 use Rattle.table_text.specs.TableText.{text_of_table}
 use Rattle.table_text.specs.Widths.{well_short}
-use borrow.Author.Rules.{rules}
 use Rattle.table_text.proofs.put_table.Goals as goal
 
 pub put_anchors-b-requires : goal.put_anchors-b-requires

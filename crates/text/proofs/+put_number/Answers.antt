@@ -1,7 +1,5 @@
 use native.Mathlib.Omega.{arith}
-use borrow.Author.Rules.{rules}
 use Rattle.text.proofs.Turns.{number_one, number_more, number_short}
-use Prim.Native.Nat.{ℕ, ◌<◌}
 use Rattle.text.proofs.+put_number.Goals as goal
 
 pub returns-then-n-lt10 : goal.returns-then-n-lt10

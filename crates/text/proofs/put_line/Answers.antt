@@ -1,6 +1,5 @@
 use native.Mathlib.Omega.{arith}
 use Rattle.text.proofs.Turns.{one_field}
-use borrow.Author.Rules.{rules}
 use Rattle.text.proofs.put_line.Goals as goal
 
 pub returns : goal.returns

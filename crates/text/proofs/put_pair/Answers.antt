@@ -1,6 +1,5 @@
 use native.Mathlib.Omega.{arith}
 use Rattle.text.proofs.Turns.{two_fields}
-use borrow.Author.Rules.{rules}
 use Rattle.text.proofs.put_pair.Goals as goal
 
 pub returns : goal.returns

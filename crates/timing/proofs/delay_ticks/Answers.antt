@@ -1,19 +1,10 @@
 use native.Mathlib.Omega.{arith}
-use mathlib.Core.Path.{ap}
-use Rattle.task.specs.declared.Place.{Place}
 use Rattle.chain.specs.Flat.{in_last}
 use Rattle.timing.proofs.Whole.{some_place, last_inside, last_place_small, press_small, end_small, end_after, delay_is}
-use borrow.Author.Rules.{rules}
 use Rattle.timing.proofs.delay_ticks.Goals as goal
 
 pub overflow_sub-n : goal.overflow_sub-n
 overflow_sub-n c = some_place _ _ c.requires.0
-
-pub earliest_after-j-requires : goal.earliest_after-j-requires
-earliest_after-j-requires c =
-    let s = c.before in
-    let k = s.requires.0 in
-    (omega (arith, ap (λ (x : Place). x.period) c.task_at-first.ensures, (k.each 0 k.some).period_pos), omega (arith, s.requires.1))
 
 pub forward_on-k-requires : goal.forward_on-k-requires
 forward_on-k-requires c =

@@ -1,7 +1,6 @@
 use mathlib.Core.Path.{◌∙◌}
 use Rattle.chain.specs.Flat.{in_last}
 use Rattle.timing.proofs.Whole.{some_place, last_inside, last_place_small, first_aged_is, first_aged_fits}
-use borrow.Author.Rules.{rules}
 use Rattle.timing.proofs.first_aged.Goals as goal
 
 pub overflow_sub-n : goal.overflow_sub-n

@@ -4,7 +4,6 @@ use Rattle.chain.specs.Chains.{job_of}
 use Rattle.chain.specs.Flat.{tasks_in, in_last}
 use Rattle.timing.specs.WarmUp.{warm_at}
 use Rattle.timing.proofs.Whole.{some_place, last_inside, warm_last_fits, warm_first_is, warm_tick_is, warm_tick_fits}
-use borrow.Author.Rules.{rules}
 use Rattle.timing.proofs.warm_tick.Goals as goal
 use Rattle.timing.proofs.warm_tick.Goals.{After-job_of-j}
 

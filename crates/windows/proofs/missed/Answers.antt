@@ -1,6 +1,7 @@
 use native.Mathlib.Omega.{arith}
 use Rattle.chain.specs.Flat.{tasks_in, in_count, in_last}
-use Rattle.windows.proofs.Ends.{read_small, end_small, read_first, miss, no_miss}
+use Rattle.windows.proofs.Ends.{read_small, end_small, read_first, flagged}
+use Rattle.std.proofs.Common.{◌∙◌}
 use Rattle.windows.proofs.missed.Goals as goal
 
 pub overflow_sub-n : goal.overflow_sub-n
@@ -35,16 +36,9 @@ overflow_sub-end c =
     let s = r.before in
     read_first (tasks_in s.args.gap s.args.tasks.now) s.requires.0 s.args.j.0 s.requires.1 _ r.task_at-first.ensures _ _ _ (in_last s.args.gap s.args.tasks.now) w.task_at-last.ensures w.forward_on-k.ensures _ _ r.read-start.ensures w.write-end.ensures
 
-pub returns-then-b-end : goal.returns-then-b-end
-returns-then-b-end c =
-    let w = c.before in
-    let r = w.before in
-    let s = r.before in
-    miss (tasks_in s.args.gap s.args.tasks.now) s.requires.0 s.args.j.0 s.requires.1 _ r.task_at-first.ensures _ _ _ (in_last s.args.gap s.args.tasks.now) w.task_at-last.ensures w.forward_on-k.ensures _ _ r.read-start.ensures w.write-end.ensures _ c.if-b-end.true
-
 pub returns : goal.returns
 returns c =
     let w = c.before in
     let r = w.before in
     let s = r.before in
-    no_miss (tasks_in s.args.gap s.args.tasks.now) s.requires.0 s.args.j.0 s.requires.1 _ r.task_at-first.ensures _ _ _ (in_last s.args.gap s.args.tasks.now) w.task_at-last.ensures w.forward_on-k.ensures _ _ r.read-start.ensures w.write-end.ensures _ c.if-b-end.false
+    c.from.ensures ∙ flagged (tasks_in s.args.gap s.args.tasks.now) s.requires.0 s.args.j.0 s.requires.1 _ r.task_at-first.ensures _ _ _ (in_last s.args.gap s.args.tasks.now) w.task_at-last.ensures w.forward_on-k.ensures _ _ r.read-start.ensures w.write-end.ensures _

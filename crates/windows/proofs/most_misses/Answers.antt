@@ -1,8 +1,6 @@
 use mathlib.Core.Path.{◌∙◌}
-use lib.ListN.{length-map}
 use Rattle.chain.proofs.Filling.{Lent, lent}
 use Rattle.windows.specs.Standing.{windows_stands}
-use borrow.Author.Rules.{rules}
 use Rattle.windows.proofs.most_misses.Goals as goal
 use Rattle.windows.proofs.most_misses.Goals.{After-flat_length-n}
 

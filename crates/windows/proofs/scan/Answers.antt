@@ -1,11 +1,9 @@
 use native.Mathlib.Omega.{arith}
-use Prim.Native.Nat.{ℕ, ◌+◌, ◌-◌, ◌≤◌, ◌<◌}
+use Prim.Native.Nat.{◌+◌, ◌-◌}
 use mathlib.Core.Path.{◌≡◌, refl, sym}
 use Rattle.chain.specs.Flat.{tasks_in}
-use Rattle.ranges.specs.Largest.{largest}
 use Rattle.ranges.proofs.LargestLaws.{largest_none, largest_more}
-use Rattle.windows.specs.Windows.{misses, misses_in, window_of}
-use Rattle.windows.specs.Scan.{Ring}
+use Rattle.windows.specs.Windows.{misses, window_of}
 use Rattle.windows.specs.Sliding.{none_yet, enters, leaves, grows, at_most}
 use Rattle.windows.proofs.Ends.{flag_small, write_small, number_small}
 use Rattle.windows.proofs.Rings.{ring_none, ring_leaves, ring_first, ring_enters, next_inside, before_more}
@@ -89,7 +87,7 @@ starts-preserved c =
       ring_leaves _ _ _ _ _ _ l.jobs.invariant.3,
       omega (arith, l.jobs.invariant.4, ring_first _ _ _ _ _ _ l.jobs.invariant.3 l.jobs.invariant.2 whole, leaves miss o.starts.s.0 l.jobs.j.0 (omega (arith, s.requires.1))),
       before_more f _ _ _ _ has o.starts.invariant.7 (l.jobs.invariant.5 (omega (arith, o.starts.invariant.3))),
-      omega (arith, c.larger-most.ensures, has, o.starts.invariant.8, largest_more f _ _ o.starts.invariant.0),
+      omega (arith, has, o.starts.invariant.8, largest_more f _ _ o.starts.invariant.0),
     )
 
 pub returns-after-starts : goal.returns-after-starts

@@ -1,14 +1,9 @@
-use native.Mathlib.Omega.{arith}
 use Prim.Native.Nat.{ℕ, ◌+◌, ◌-◌, ◌≤◌, ◌<◌}
-use mathlib.Core.Path.{◌≡◌, refl, sym}
+use mathlib.Core.Path.{◌≡◌}
 use Rattle.chain.specs.Flat.{tasks_in}
 use Rattle.ranges.specs.Largest.{largest}
-use Rattle.ranges.proofs.LargestLaws.{largest_none, largest_more}
 use Rattle.windows.specs.Windows.{misses, misses_in, window_of}
 use Rattle.windows.specs.Scan.{Ring}
-use Rattle.windows.specs.Sliding.{none_yet, enters, leaves, grows, at_most}
-use Rattle.windows.proofs.Ends.{flag_small, write_small, number_small}
-use Rattle.windows.proofs.Rings.{ring_none, ring_leaves, ring_first, ring_enters, next_inside, before_more}
 use Rattle.windows.proofs.scan.Given as goal
 
 -- the jobs from s up to before j are counted, and after a turn they are below the goal
