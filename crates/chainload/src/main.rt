@@ -9,7 +9,7 @@
 
 ghost use Rattle.std.specs.Prelude.{◌≤◌, length};
 
-use failure::tell;
+use failure::reason;
 use std::env::{Env, FillError};
 use std::io;
 use std::io::Write;
@@ -26,6 +26,12 @@ fn word_count<R: Env>(rt: &R) -> usize {
     (0..usize::MAX)
         .take_while(|i| !matches!(rt.arg(*i, &mut []), Err(FillError::NotPresent)))
         .count()
+}
+
+// Tells what failed, with the system's reason. No contract can say what is printed, so it is no public function: `chainreport` and `chainload` have it each.
+fn tell<R: Eprint + Alloc>(rt: &R, what: &str, error: io::Error) -> io::Result<()> {
+    let text = format!(in rt.alloc(); "{error}")?;
+    eprintln!(rt; "{what}: {}", reason(text.as_str()))
 }
 
 fn main(rt: HostRuntime) -> io::Result<()> {

@@ -8,7 +8,7 @@
 
 ghost use Rattle.std.specs.Prelude.{◌≤◌, length, IfOk};
 
-use failure::tell;
+use failure::reason;
 use std::io;
 use std::io::{Read, Write};
 
@@ -24,6 +24,12 @@ fn read_input<R: Read>(reader: &mut R, input: &mut [u8]) -> io::Result<usize>
         }
     }
     Ok(done)
+}
+
+// Tells what failed, with the system's reason. No contract can say what is printed, so it is no public function: `chainreport` and `chainload` have it each.
+fn tell<R: Eprint + Alloc>(rt: &R, what: &str, error: io::Error) -> io::Result<()> {
+    let text = format!(in rt.alloc(); "{error}")?;
+    eprintln!(rt; "{what}: {}", reason(text.as_str()))
 }
 
 fn main(rt: HostRuntime) -> io::Result<()> {
