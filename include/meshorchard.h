@@ -82,15 +82,15 @@ extern "C" {
 #define MO_STACK_SECTIONS 1088u
 #define MO_STACK_LOAD 448u
 #define MO_STACK_READ_FILE 3520u
-#define MO_STACK_WRITE_FILE 6912u
-#define MO_STACK_CHAIN_OF_SCHEDULE 9344u
-#define MO_STACK_BOOKINGS 11136u
-#define MO_STACK_SMALLEST_PHASE 12480u
+#define MO_STACK_WRITE_FILE 4288u
+#define MO_STACK_CHAIN_OF_SCHEDULE 5952u
+#define MO_STACK_BOOKINGS 7744u
+#define MO_STACK_SMALLEST_PHASE 9088u
 #define MO_STACK_BOUNDED_SCHEDULE 3136u /* 1,496 of it for the struct handed back */
-#define MO_STACK_MAKE_STATE 20032u /* 4,512 of it for the structs handed to the call and back */
-#define MO_STACK_ASK 23104u /* 7,544 of it for the structs handed to the call and back */
+#define MO_STACK_MAKE_STATE 16640u /* 4,512 of it for the structs handed to the call and back */
+#define MO_STACK_ASK 19712u /* 7,544 of it for the structs handed to the call and back */
 #define MO_STACK_COMMIT 19008u /* 7,512 of it for the structs handed to the call and back */
-#define MO_STACK_REPORT 24320u
+#define MO_STACK_REPORT 21184u
 
 /*
  * Refusals: the numbers of document 01, and 16 to 23 of orders 1, 6, 7, 9 and 10 in document 02; order 5 there adds the gap to 5.

@@ -48,7 +48,11 @@ pub fn follows(before: u64, t: NumberedTask) -> bool
 pub fn numbers_of(tasks: [NumberedTask; 32]) -> [u64; 32]
     ensures { result ≡ map number_of tasks }
 {
-    tasks.map(|t| t.number)
+    let mut numbers = [0; 32];
+    for i in 0..32 {
+        numbers[i] = tasks[i].number;
+    }
+    numbers
 }
 
 // Where number n stands first, counted from 0.

@@ -28,7 +28,10 @@ fn is_measured(n: usize, m: usize, g: usize, h: u64) -> bool
 fn is_fitting(start: u64, next: u64, latency: u64) -> bool
     ensures { result ≡ fitting start next latency }
 {
-    start < next && latency <= LATENCY_LIMIT && next - start < latency
+    if next <= start || LATENCY_LIMIT < latency {
+        return false;
+    }
+    next - start < latency
 }
 
 // A table: two lists of numbers, of which the first `anchors` entries are the anchors' starts and latencies, and the ticks after which it repeats.
