@@ -144,7 +144,7 @@ module _ (b : List ℕ) (is : Bytes b) (code : ℕ) (ts ch pl : List ℕ) (n m g
   given = rw was_read.1 at reads
 
   got : schedule_from ts n ch pl m gap ≡ r
-  got = given_schedule r code ts ch pl (n ∷ m ∷ gap ∷ []) given (read_arrays b is r was_read.1) sound_read.few sound_read.few_chains (read_places b is r was_read.1)
+  got = given_schedule (Ok r) code ts ch pl (n ∷ m ∷ gap ∷ []) given (read_arrays b is r was_read.1) sound_read.few sound_read.few_chains (read_places b is r was_read.1)
 
   -- what is chosen is looked for in the same schedule
   same_read : SameSchedule (schedule_from us n vs ws m gap) r

@@ -5,12 +5,12 @@ use Rattle.std.proofs.Common.{arith, sym, ap, ◌∙◌, take_at, get_or-take, l
 use Rattle.std.proofs.lemmas.Bool.{eqb-false}
 use Rattle.refusal.specs.declared.Refusal.{Refusal}
 use Rattle.refusal.specs.Refusals.{refusal}
-use Rattle.chain.specs.Flat.{take_flat}
-use Rattle.ranges.specs.Entries.{entries_length, entries_at}
+use Rattle.chain.specs.Flat.{flat_of, take_flat}
+use Rattle.ranges.specs.Entries.{entries, entries_length, entries_at}
 use Rattle.schedule.specs.declared.NumberedTask.{NumberedTask}
 use Rattle.schedule.specs.declared.Route.{Route}
 use Rattle.schedule.specs.declared.Schedule.{Schedule}
-use Rattle.schedule.specs.Schedules.{tasks_in, places_of, count_of, chains_in, no_route, route_of, zero_numbered}
+use Rattle.schedule.specs.Schedules.{tasks_in, places_of, count_of, chains_in, no_route, route_of, zero_numbered, empty_schedule}
 use Rattle.schedule.specs.Arrays.{Arrays}
 use Rattle.schedule.specs.Padding.{take_padded, padded_at}
 use Rattle.schedule_checks.specs.Checks.{fault_of}
@@ -26,16 +26,42 @@ use Rattle.round_trip.specs.RoundTrips.{cleared}
 use Rattle.round_trip.proofs.RoundTrips.{read_arrays, read_sound, read_places, write_after_read, read_after_write, cleared_parts, cleared_arrays, cleared_places}
 use Rattle.capi_schedule.specs.FlatSchedule.{tasks_from, count_from, held_from, place_from, route_from, routes_from, schedule_from, numbered_fields, flat_tasks, flat_routes, route_counts}
 use Rattle.capi_schedule.specs.GivenBack.{from_arrays, schedule_given_back, front_tasks, same_tasks, count_fits, count_is, held_back, held_is, flat_long, flat_at, count_at, SameChains, same_counts, same_places}
-use Rattle.capi_file.specs.Calls.{read_code, GivesSchedule, written_code, written_length, GivesFile}
+use Rattle.capi_file.specs.Calls.{read_code, read_tasks, read_chains, read_places as read_route_counts, read_counts, GivesSchedule, written_code, written_length, GivesFile}
 
 -- ---- what C gives back
 
--- the schedule of what C got of a schedule
-pub given_schedule : (s : Schedule) (code : ℕ) (ts ch pl counts : List ℕ) → GivesSchedule (Ok s) code ts ch pl counts → Arrays s → s.count ≤ 32 → s.chains ≤ 4
-    → ((c : ℕ) → c < 4 → (get_or s.routes c no_route).count ≤ 12)
-    → schedule_from ts (get_or counts 0 0) ch pl (get_or counts 1 0) (get_or counts 2 0) ≡ s
-given_schedule s code ts ch pl counts g a few few_chains few_places =
-    rw (g.gives_tasks, g.gives_chains, g.gives_places, g.gives_counts) (schedule_given_back s a few few_chains few_places)
+-- what was read, and under a refusal the schedule of zeros
+abbrev pub schedule_in : Result Schedule Refusal → Schedule
+schedule_in (Ok s) = s
+schedule_in (Err r) = empty_schedule
+
+-- under a refusal C gets the numbers of the schedule of zeros
+tasks_in_both : (f : Result Schedule Refusal) → read_tasks f ≡ flat_tasks (schedule_in f).tasks
+unfolding flat_of
+tasks_in_both (Ok s) = refl
+tasks_in_both (Err r) = refl
+
+chains_in_both : (f : Result Schedule Refusal) → read_chains f ≡ flat_routes (schedule_in f).routes
+unfolding entries
+chains_in_both (Ok s) = refl
+chains_in_both (Err r) = refl
+
+places_in_both : (f : Result Schedule Refusal) → read_route_counts f ≡ route_counts (schedule_in f).routes
+unfolding entries
+places_in_both (Ok s) = refl
+places_in_both (Err r) = refl
+
+counts_in_both : (f : Result Schedule Refusal) → read_counts f ≡ (schedule_in f).count ∷ (schedule_in f).chains ∷ (schedule_in f).gap ∷ []
+counts_in_both (Ok s) = refl
+counts_in_both (Err r) = refl
+
+-- the schedule of what C got of a file, be it read or refused
+pub given_schedule : (f : Result Schedule Refusal) (code : ℕ) (ts ch pl counts : List ℕ) → GivesSchedule f code ts ch pl counts → Arrays (schedule_in f) → (schedule_in f).count ≤ 32 → (schedule_in f).chains ≤ 4
+    → ((c : ℕ) → c < 4 → (get_or (schedule_in f).routes c no_route).count ≤ 12)
+    → schedule_from ts (get_or counts 0 0) ch pl (get_or counts 1 0) (get_or counts 2 0) ≡ schedule_in f
+given_schedule f code ts ch pl counts g a few few_chains few_places =
+    rw (g.gives_tasks ∙ tasks_in_both f, g.gives_chains ∙ chains_in_both f, g.gives_places ∙ places_in_both f, g.gives_counts ∙ counts_in_both f)
+    (schedule_given_back (schedule_in f) a few few_chains few_places)
 
 -- a refusal's code is not 0, so with the code 0 a schedule was read
 pub schedule_read : (b : List ℕ) → read_code (read_file b) ≡ 0 → (s : Schedule) × (read_file b ≡ Ok s)
@@ -98,7 +124,7 @@ module _ (b : List ℕ) (is : Bytes b) (code : ℕ) (ts ch pl : List ℕ) (n m g
   sound = read_sound b is r r_read
 
   read : schedule_from ts n ch pl m gap ≡ r
-  read = given_schedule r code ts ch pl (n ∷ m ∷ gap ∷ []) given (read_arrays b is r r_read) sound.few sound.few_chains (read_places b is r r_read)
+  read = given_schedule (Ok r) code ts ch pl (n ∷ m ∷ gap ∷ []) given (read_arrays b is r r_read) sound.few sound.few_chains (read_places b is r r_read)
 
   n_is : n ≡ r.count
   n_is = ap (λ (l : List ℕ). get_or l 0 0) given.gives_counts
@@ -227,7 +253,7 @@ module _ (ts : List ℕ) (n : ℕ) (ch pl : List ℕ) (m gap : ℕ) (old : List 
       let q : (cleared s).chains ≡ m = parts.1 ∙ chains_are in
       let k : counts' ≡ n ∷ m ∷ gap ∷ [] = v.gives_counts ∙ ap (λ (x : ℕ). x ∷ (cleared s).chains ∷ gap ∷ []) d ∙ ap (λ (x : ℕ). n ∷ x ∷ gap ∷ []) q in
       let a = cleared_arrays s (length old) long arrays is_written in
-      let b = given_schedule (cleared s) code' ts' ch' pl' counts' v a.0 (omega (arith, parts.0, sound_s.few)) (omega (arith, parts.1, sound_s.few_chains)) a.1 in
+      let b = given_schedule (Ok (cleared s)) code' ts' ch' pl' counts' v a.0 (omega (arith, parts.0, sound_s.few)) (omega (arith, parts.1, sound_s.few_chains)) a.1 in
       record {
         accepted = v.answers;
         counted = k;

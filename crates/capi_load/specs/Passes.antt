@@ -11,7 +11,7 @@ use Rattle.chain.specs.Hyperperiod.{hyper_of}
 use Rattle.capi_chain.specs.FlatChain.{chain_from}
 use Rattle.capi_chain.specs.Front.{chain_given_back}
 use Rattle.load.specs.Load.{loaded, load_of}
-use Rattle.load.proofs.Passes.{refused_with_holds, not_refused, made, twelve_tasks, passes, hyper_divides, hyper_longest}
+use Rattle.load.proofs.Passes.{refused_outside, not_refused, made, twelve_tasks, passes, hyper_divides, hyper_longest}
 use Rattle.capi_load.specs.Calls.{load_code, load_numbers, GivesLoad}
 
 module _ (seed places code : ℕ) (tasks : List ℕ) (gives : GivesLoad seed places code tasks) where
@@ -24,7 +24,7 @@ module _ (seed places code : ℕ) (tasks : List ℕ) (gives : GivesLoad seed pla
       where
         go : (m : Result Chain Refusal) → m ≡ load_of seed places → (1 ≤ places) × (places ≤ 12)
         go (Ok c) e = let k = not_refused seed places c e in (k.0, k.1)
-        go (Err r) e = absurd (omega (arith, gives.answers ∙ sym (ap load_code e), ap (λ (q : Refusal). q.number) (refused_with_holds seed places r e).0))
+        go (Err r) e = absurd (omega (arith, gives.answers ∙ sym (ap load_code e), ap (λ (q : Refusal). q.number) (refused_outside seed places r e).0))
 
     -- the chain of the seed
     pub chain_for_c : chain_from tasks places 0 ≡ loaded seed places

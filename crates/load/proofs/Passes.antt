@@ -124,20 +124,24 @@ module _ (n s : ℕ) where
 
 -- ---- the chain
 
+-- A load is refused with 8 at place 0 for places outside 1 to 12, and else not at all;
+pub refused_with_holds : (seed places : ℕ) → load_of seed places ≡ cond (nat_le 1 places && nat_le places 12) (Ok (loaded seed places)) (Err (refusal 8 0))
+unfolding load_of
+refused_with_holds seed places = refl
+
 module _ (seed places : ℕ) where
-  -- A load is refused with 8 at place 0, and for places outside 1 to 12 alone;
-  pub refused_with_holds : (r : Refusal) → Err r ≡ load_of seed places → (r ≡ refusal 8 0) × ((1 ≤ places) × (places ≤ 12) → ⊥)
-  unfolding load_of
-  refused_with_holds r h = go (nat_le 1 places) (nat_le places 12) refl refl h
+  -- so what a load is refused with is 8 at place 0, and for places outside 1 to 12 alone;
+  pub refused_outside : (r : Refusal) → Err r ≡ load_of seed places → (r ≡ refusal 8 0) × ((1 ≤ places) × (places ≤ 12) → ⊥)
+  refused_outside r h = go (nat_le 1 places) (nat_le places 12) refl refl (h ∙ refused_with_holds seed places)
     where
       go : (a b : Bool) → nat_le 1 places ≡ a → nat_le places 12 ≡ b → Err r ≡ cond (a && b) (Ok (loaded seed places)) (Err (refusal 8 0)) → (r ≡ refusal 8 0) × ((1 ≤ places) × (places ≤ 12) → ⊥)
       go true true e f h = absurd cc
       go true false e f h = let i : r ≡ refusal 8 0 = cc in (i, λ k. omega (arith, leb-false places 12 f))
       go false b e f h = let i : r ≡ refusal 8 0 = cc in (i, λ k. omega (arith, leb-false 1 places e))
 
-  -- so of any load the refusal fits one number.
+  -- and of any load the refusal fits one number.
   pub small_refusal : (r : Refusal) → Err r ≡ load_of seed places → (r.number < 256) × (r.place ≤ 1000000000)
-  small_refusal r h = rw ((refused_with_holds r h).0) (omega arith, omega arith)
+  small_refusal r h = rw ((refused_outside r h).0) (omega arith, omega arith)
 
   -- One that is not refused has 1 to 12 places, and is the chain of those draws.
   pub not_refused : (c : Chain) → Ok c ≡ load_of seed places → (1 ≤ places) × (places ≤ 12) × (c ≡ loaded seed places)
