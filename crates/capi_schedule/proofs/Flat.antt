@@ -7,17 +7,17 @@ use native.Mathlib.Numerals.{add-one}
 use borrow.Author.Tests.{le-leb, lt-leb}
 use mathlib.Core.Path.{◌≡◌, sym, ap, ◌∙◌}
 use mathlib.Core.List.{List, [], ◌∷◌, ◌++◌, append_assoc, append-nil}
-use lib.ListN.{get_or-eq_default, length, get_or, set, take, replicate, length-append}
+use lib.ListN.{get_or-eq_default, length, get_or, set, take, replicate, length-append, length-set, length-replicate}
 use lib.Seq.{sets, take_all, length-take-le}
 use Rattle.chain.specs.Flat.{flat_of, length_flat, flat_more}
 use denote.Param.Members.{Mut, Called}
 use Rattle.std.specs.Array.{IsFromFnResultFrom, IsFromFnResult}
 use native.Mathlib.Decide.{dec_lt}
-use Rattle.ranges.specs.Entries.{entries, entries_are}
+use Rattle.ranges.specs.Entries.{entries, entries_length, entries_more, entries_are}
 use Rattle.schedule.specs.declared.NumberedTask.{NumberedTask}
 use Rattle.schedule.specs.Schedules.{padded, zero_numbered}
 use Rattle.capi_schedule.specs.FlatSchedule.{held_from}
-use Rattle.schedule.specs.Padding.{padded_none, padded_set, padded_whole}
+use Rattle.schedule.specs.Padding.{padded_none, padded_set, padded_same, padded_whole}
 
 -- a task by default is zeros
 pub zero_task_is : (t : NumberedTask) → (t.number ≡ 0) × ((t.task.period ≡ 0) × ((t.task.duration ≡ 0) × (t.task.phase ≡ 0))) → t ≡ zero_numbered
@@ -25,6 +25,42 @@ zero_task_is t e = go t.number t.task.period t.task.duration t.task.phase e.0 e.
   where
     go : (n p d f : ℕ) → n ≡ 0 → p ≡ 0 → d ≡ 0 → f ≡ 0 → ◌≡◌ {A = NumberedTask} (record { number = n; task = record { period = p; duration = d; phase = f } }) zero_numbered
     go n p d f a b c e = rw (a, b, c, e)
+
+-- ---- arrays from a rule
+
+module _ {A : Type 0} (f : ℕ → A) where
+  more : (n i : ℕ) (d : A) → padded n d (entries f 0 i ++ (f i ∷ [])) ≡ padded n d (entries f 0 (i + 1))
+  more n i d =
+      let e : 0 + i ≡ i = omega arith in
+      ap (λ (k : ℕ). padded n d (entries f 0 i ++ (f k ∷ []))) (sym e) ∙ ap (padded n d) (sym (entries_more f 0 i)) ∙ ap (λ (k : ℕ). padded n d (entries f 0 k)) (sym (add-one i))
+
+  -- a loop that fills an array of n entries from the front has come to entry i; d is what the array held before
+  abbrev pub Filled : ℕ → A → ℕ → List A → Type 0
+  Filled n d i l = (i ≤ n) × (length l ≡ n) × (l ≡ padded n d (entries f 0 i))
+
+  pub fill_start : (n : ℕ) (d : A) → Filled n d 0 (replicate n d)
+  unfolding entries
+  fill_start n d = (omega arith, length-replicate n d, sym (padded_none d n))
+
+  pub fill_more : (n : ℕ) (d : A) (i : ℕ) (l : List A) (x : A) → i < n → Filled n d i l → x ≡ f i → Filled n d (i + 1) (set l i x)
+  fill_more n d i l x h k e = (
+    omega arith,
+    length-set l i x ∙ k.1,
+    ap (λ (y : List A). set y i x) k.2 ∙ ap (set (padded n d (entries f 0 i)) i) e ∙ padded_set d n (entries f 0 i) i (f i) (entries_length f 0 i) h ∙ more n i d,
+  )
+
+  -- where the entry is what was there before
+  pub fill_leave : (n : ℕ) (d : A) (i : ℕ) (l : List A) → i < n → Filled n d i l → f i ≡ d → Filled n d (i + 1) l
+  fill_leave n d i l h k e = (
+    omega arith,
+    k.1,
+    k.2 ∙ padded_same d n (entries f 0 i) (omega (arith, entries_length f 0 i)) ∙ ap (λ (x : A). padded n d (entries f 0 i ++ (x ∷ []))) (sym e) ∙ more n i d,
+  )
+
+  pub fill_end : (n : ℕ) (d : A) (i : ℕ) (l : List A) → n ≤ i → Filled n d i l → l ≡ entries f 0 n
+  fill_end n d i l h k =
+      let e : i ≡ n = omega (arith, k.0) in
+      k.2 ∙ ap (λ (j : ℕ). padded n d (entries f 0 j)) e ∙ padded_whole d n (entries f 0 n) (omega (arith, entries_length f 0 n))
 
 -- ---- arrays from calls
 

@@ -1,6 +1,6 @@
 -- Mean by area: twice the sum of the delays at whole ticks, less H, is had tick by tick and anchor by anchor; and what keeps it small.
 use Rattle.std.specs.Prelude.{◌≡◌, List, ℕ, zero, suc, ◌+◌, ◌-◌, ◌*◌, ◌≤◌, ◌<◌}
-use Rattle.std.proofs.Common.{sym, ap, ◌∙◌, arith}
+use Rattle.std.proofs.Common.{sym, ap, ◌∙◌, mul-le-mul_left, arith}
 use Rattle.table.specs.Anchors.{Anchor, first_start}
 use Rattle.table.specs.WellFormed.{latency_limit}
 use Rattle.table.specs.Reading.{delay_at}
@@ -8,7 +8,7 @@ use Rattle.table.specs.Figures.{greatest}
 use Rattle.table.specs.Segments.{Formed}
 use Rattle.table.specs.GreatestDelay.{greatest_delay}
 use Rattle.table.specs.LowDelay.{low_delay}
-use Rattle.figures.specs.Area.{add_area}
+use Rattle.figures.specs.Area.{area, add_area}
 use Rattle.figures.specs.Ticks.{ticks, total}
 use Rattle.figures.specs.Figures.{delay_sum, doubled_area}
 use Rattle.figures.specs.Folding.{adding, total_ticks}
@@ -60,3 +60,7 @@ pub area_bound : (H : ℕ) (l : List Anchor) → Formed H l → greatest l ≤ l
 area_bound H l f k =
     rw (area_ticks H l f)
     (total_bound (λ t. tick_area (delay_at H l t)) (2 * latency_limit) H (first_start l) (λ t h. omega (arith, (greatest_delay H l f).bound t h)))
+
+-- an anchor adds at most twice the latency's limit for each of its ticks
+pub anchor_bound : (d v : ℕ) → d < v → v ≤ latency_limit → area d v ≤ d * (2 * latency_limit)
+anchor_bound d v h k = mul-le-mul_left d (omega arith)

@@ -1,5 +1,5 @@
 -- A loop that writes the entries of a list in order, from the first on: what each turn and the end show.
-use Rattle.std.proofs.Common.{◌≡◌, ℕ, zero, suc, ◌+◌, ◌%◌, ◌<◌, ◌≤◌, List, [], ◌∷◌, ◌++◌, length, get_or, take, drop, set, sym, refl, ap, ◌∙◌, append_assoc, arith, length-set, drop-cons}
+use Rattle.std.proofs.Common.{◌≡◌, ℕ, zero, suc, ◌+◌, ◌%◌, ◌<◌, ◌≤◌, List, [], ◌∷◌, ◌++◌, length, get_or, take, drop, set, sym, refl, ap, ◌∙◌, append_assoc, append-nil, arith, length-set, drop_of_length-le, drop-cons}
 use native.Mathlib.Nat.{mod-add-mod}
 use lib.Seq.{set_at, get_or_at}
 use Rattle.ranges.specs.Entries.{entries, sum, entries_length, entries_more, entries_sum}
@@ -40,6 +40,11 @@ module _ (f : ℕ → ℕ) (i : ℕ) (old counts : List ℕ) (w : Written f i ol
             ∙ ap (λ (r : List ℕ). r ++ drop (suc i) old) (sym (entries_more f 0 i))
             ∙ ap (λ (k : ℕ). entries f 0 k ++ drop k old) s;
       }
+
+  pub written_end : length counts ≤ i → counts ≡ entries f 0 (length old)
+  written_end h =
+      let e : i ≡ length old = omega (arith, w.within, w.same) in
+      w.holds ∙ ap (λ (r : List ℕ). entries f 0 i ++ r) (drop_of_length-le old {i = i} (omega (arith, w.same))) ∙ append-nil (entries f 0 i) ∙ ap (entries f 0) e
 
 -- ---- sums of differences
 

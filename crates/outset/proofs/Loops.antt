@@ -12,6 +12,7 @@ use Rattle.chain.specs.Chains.{at}
 use Rattle.chain.specs.Ranges.{forward_fits, backward_fits}
 use Rattle.partition.specs.declared.Partition.{Partition}
 use Rattle.partition.specs.Partitions.{IsPartition}
+use Rattle.partition.proofs.Bounds as bounds
 use Rattle.stepping.specs.OnePlace.{job_at, stored_long}
 use Rattle.stepping.specs.Standing.{back_job, on_job, back_ticks, on_ticks, StandsFrom, Standing, Stands}
 use Rattle.stepping.specs.Ways.{back_is, back_quotient, on_quotient}
@@ -23,6 +24,9 @@ period_same : (a b : Place) → a ≡ b → a.period ≡ b.period
 period_same a b e = ap (λ (x : Place). x.period) e
 
 module _ (l : List Place) (p m : ℕ) (cut : Cut l p m) where
+  pub job_fits : m + 1 ≤ 1000000000000
+  job_fits = omega (arith, bounds.job_fits l cut.sound p cut.inside (m + 1), cut.top)
+
   -- ---- the way back
 
   -- A turn at place i, where j is the job of place i + 1, b its task, and s the state; a is then the task of place i, and t what b's job reads.
@@ -31,6 +35,7 @@ module _ (l : List Place) (p m : ℕ) (cut : Cut l p m) where
     pub phase : (a : Place) → a ≡ at l i → (t : ℕ) → t ≡ read_of b j → a.phase ≤ t
     pub duration : (a : Place) → a ≡ at l i → (t : ℕ) → t ≡ read_of b j → a.duration ≤ t - a.phase
     pub gap : (a : Place) → a ≡ at l i → (t : ℕ) → t ≡ read_of b j → a.gap ≤ t - a.phase - a.duration
+    pub fits : (a : Place) → a ≡ at l i → (1 ≤ a.period) × (i < 12) × (2 * i + 2 ≤ length s)
     pub leaves : (a : Place) → a ≡ at l i → (t : ℕ) → t ≡ read_of b j → (new : List ℕ) (r : ℕ) → Put i (t - a.phase - a.duration - a.gap) a.period s new r → (r ≡ back_job l p m i) × States l p m i (p + 1) old new
 
   module _ (old s : List ℕ) (room : 2 * (p + 1) ≤ length old) (i : ℕ) (u : i < p) (k : States l p m (i + 1) (p + 1) old s) (j : ℕ) (job : j ≡ back_job l p m (i + 1)) (b : Place) (here : b ≡ at l (i + 1)) where
@@ -56,6 +61,7 @@ module _ (l : List Place) (p m : ℕ) (cut : Cut l p m) where
       phase = λ a is t read. omega (arith, readable_0 a is, read, read_is, quotient.0);
       duration = λ a is t read. omega (arith, readable_0 a is, read, read_is, quotient.0);
       gap = λ a is t read. omega (arith, readable_0 a is, read, read_is, quotient.0);
+      fits = λ a is. (omega (arith, period_same a (at l i) is, (cut.sound.each i (omega (arith, cut.inside))).period_pos), omega (arith, cut.inside, cut.sound.few), i_room);
       leaves = λ a is t read new r pt.
           let q : Put i (back_ticks l p m i) (at l i).period s new r = rw (ticks a is t read, period_same a (at l i) is) at pt in
           (q.is ∙ sym quotient.1, record { long = stored_long s new i _ _ q.stored ∙ k.long; from = stands_back l p m s new i (p + 1) r u (omega arith) i_room k.from q quotient.1 });
@@ -67,7 +73,9 @@ module _ (l : List Place) (p m : ℕ) (cut : Cut l p m) where
   pub record OnTurn (old s : List ℕ) (i j : ℕ) (a : Place) : Type 0 where
     pub readable : readable_of a j ≤ 2000000000000
     pub phase : (b : Place) → b ≡ at l i → (w : ℕ) → w ≡ readable_of a j → b.phase ≤ w
+    pub period : (b : Place) → b ≡ at l i → 1 ≤ b.period
     pub ticks : (b : Place) → b ≡ at l i → (w : ℕ) → w ≡ readable_of a j → w - b.phase + (b.period - 1) ≤ 3000000000000
+    pub fits : (b : Place) → b ≡ at l i → (1 ≤ b.period) × (i < 12) × (2 * i + 2 ≤ length s)
     pub leaves : (b : Place) → b ≡ at l i → (w : ℕ) → w ≡ readable_of a j → (new : List ℕ) (r : ℕ) → Put i (w - b.phase + (b.period - 1)) b.period s new r → (r ≡ on_job l p m i) × States l p m 0 (i + 1) old new
 
   module _ (old s : List ℕ) (room : 2 * length l ≤ length old) (c : ℕ) (u : p ≤ c) (v : c + 1 < length l) (k : States l p m 0 (c + 1) old s) (j : ℕ) (job : j ≡ on_job l p m c) (a : Place) (here : a ≡ at l c) where
@@ -83,6 +91,9 @@ module _ (l : List Place) (p m : ℕ) (cut : Cut l p m) where
     phase_same : (b : Place) → b ≡ at l (c + 1) → b.phase ≡ (at l (c + 1)).phase
     phase_same b is = ap (λ (x : Place). x.phase) is
 
+    period_some : (b : Place) → b ≡ at l (c + 1) → 1 ≤ b.period
+    period_some b is = omega (arith, period_same b (at l (c + 1)) is, (cut.sound.each (c + 1) v).period_pos)
+
     c_room : 2 * (c + 1) + 2 ≤ length s
     c_room = omega (arith, k.long)
 
@@ -94,7 +105,9 @@ module _ (l : List Place) (p m : ℕ) (cut : Cut l p m) where
     on_turn = record {
       readable = readable_fits;
       phase = λ b is w write. omega (arith, write, readable_is, on_q.0, phase_same b is);
+      period = period_some;
       ticks = λ b is w write. omega (arith, write, readable_fits, period_same b (at l (c + 1)) is, (cut.sound.each (c + 1) v).period_max);
+      fits = λ b is. (period_some b is, omega (arith, cut.sound.few), c_room);
       leaves = λ b is w write new r pt.
           let q : Put (c + 1) (on_ticks l p m c) (at l (c + 1)).period s new r = rw (ticks_on b is w write, period_same b (at l (c + 1)) is) at pt in
           (q.is ∙ sym on_q.1, record { long = stored_long s new (c + 1) _ _ q.stored ∙ k.long; from = stands_on l p m s new c r u c_room k.from q on_q.1 });

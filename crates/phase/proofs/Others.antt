@@ -33,7 +33,7 @@ module _ (g number : ℕ) (places : List ℕ) (l : List Task) (ok : AcceptedList
 
   module _ (multiple i : ℕ) (k : Multiplied g number places l multiple i) where
     module _ (more : i < length places) where
-      place_inside : (i < length (placed g l)) × (i < 12)
+      pub place_inside : (i < length (placed g l)) × (i < 12)
       place_inside = (omega (arith, ok.long, length-map l (place_of g)), omega (arith, ok.long, length-map l (place_of g), ok.sound.few))
 
       -- a place of the task itself

@@ -3,7 +3,7 @@ use Prim.Native.Nat.{ℕ, suc, ◌+◌, ◌-◌, ◌*◌, ◌/◌, ◌≤◌, �
 use native.Mathlib.Omega.{arith}
 use native.Mathlib.Decide.{dec_le}
 use native.Mathlib.Numerals.{add-one}
-use native.Mathlib.Nat.{add-mul, div-mul-le_self, div-le_self, lt-div-mul-add, mul-le-mul_right}
+use native.Mathlib.Nat.{add-mul, div-mul-le_self, div-le_self, lt-div-mul-add, mul-le-mul_right, mul-le-mul_left}
 use mathlib.Core.Path.{◌≡◌, sym, ap, ◌∙◌}
 use mathlib.Core.Bool.{Bool, true, false}
 use mathlib.Core.List.{List}
@@ -53,12 +53,15 @@ module _ (g : ℕ) (places : List ℕ) (l : List Task) (p n from : ℕ) (r : Lis
   period_pos : 1 ≤ T
   period_pos = (k.accepted.sound.each p inside).period_pos
 
-  range_few : n ≤ 60000000
+  pub range_few : n ≤ 60000000
   range_few = omega (arith, k.range, div-le_self (hyper_of (placed g l)) T, k.accepted.small)
 
   -- so many partitions are a hyperperiod at most
   range_ticks : n * T ≤ 60000000
   range_ticks = omega (arith, ap (λ (x : ℕ). x * T) k.range, div-mul-le_self (hyper_of (placed g l)) T, k.accepted.small)
+
+  pub from_few : from ≤ 62000000
+  from_few = omega (arith, mul-le-mul_left {m = 1} {n = T} from period_pos, k.soon)
 
   module _ (number F : ℕ) (small : F ≤ 1000000) where
     abbrev m : List Place

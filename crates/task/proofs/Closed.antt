@@ -5,7 +5,10 @@ use native.Mathlib.Omega.{arith}
 use native.Mathlib.Nat.{add-div_right, div-eq_of_lt}
 use mathlib.Core.Path.{◌≡◌, sym, ap, ◌∙◌}
 use borrow.Author.Tests.{le-leb, lt-leb}
+use Rattle.task.specs.declared.Task.{Task}
 use Rattle.task.specs.declared.Place.{Place}
+use lib.Dec.{leb}
+use Rattle.task.specs.Jobs.{within_limits}
 use Rattle.task.specs.Links.{earliest_from, latest_over}
 
 module _ (a : Place) (pos : 1 ≤ a.period) where
@@ -28,3 +31,8 @@ unfolding latest_over
 latest_some a d z n h e =
     let s : n ≡ z - (a.phase + d) = omega arith in
     rw (le-leb (a.phase + d) z h, s)
+
+-- past the other four tests only the phase is left
+pub phase_left : (a : Task) → 1 ≤ a.period → a.period ≤ 1000000 → 1 ≤ a.duration → a.duration ≤ 4000000 → leb a.phase 1000000 ≡ within_limits a
+unfolding within_limits
+phase_left a t u d e = rw (le-leb 1 a.period t, le-leb a.period 1000000 u, le-leb 1 a.duration d, le-leb a.duration 4000000 e)
